@@ -1,10 +1,11 @@
-# make test: the names in the documents are looked up (tools/quotes), then the merge gate, then the wrong bodies of must-fail/ over the
-#   libraries that it has built, and then the transcripts, the mistakes of upgrades and the rehearsals on its programs. Its last line is 'N passed, M failed'.
+# make test: the names in the documents are looked up (tools/quotes), then the merge gate, then the wrong bodies of must-fail/
+#   over the libraries that it has built, then tools/expand (tools/try_expand, which needs no Erlang), and then the transcripts,
+#   the mistakes of upgrades and the rehearsals on its programs. Its last line is 'N passed, M failed'.
 # make transcripts: plays the sessions of transcripts/ on the program, which it builds first (tools/transcripts);
 #   make transcripts NAME=name plays one file of them. Its last line is 'N passed, M failed'.
 # make rehearsals: plays the runs of rehearsals/ on `rehearse`, which it builds first (tools/rehearsals);
 #   make rehearsals NAME=name plays one file of them. Its last line is 'N passed, M failed'.
-# make mistakes: plays the mistakes of upgrades and the recipes of rehearsals/switch on `rehearse`, which it builds first
+# make mistakes: plays the mistakes, recipes and scripts of rehearsals/switch on `rehearse`, which it builds first
 #   (tools/mistakes); make mistakes NAME=name plays one of them. Its last line is 'N passed, M failed, K not found yet'.
 # make check: proves the crates alone, over what earlier checks kept, and tries no edit and no test: for the working day.
 # make edits: sees that the prover refuses each wrong body, those of edits/ too, many in one check (tools/edits), over the libraries of
@@ -27,6 +28,7 @@ test:
 	@tools/quotes
 	@$(RT) ci
 	@tools/edits --gate
+	@tools/try_expand
 	@tools/transcripts
 	@tools/mistakes
 	@tools/rehearsals

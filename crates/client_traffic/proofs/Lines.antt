@@ -1,4 +1,4 @@
--- What lines send, a line more at a time.
+-- What lines send, one line more at a time.
 use Rattle.std.proofs.Common.{◌≡◌, ◌∙◌, ◌<◌, ◌≤◌, ℕ, ◌+◌, List, [], ◌∷◌, ◌++◌, refl, sym, ap, subst, length, get_or, take}
 use Rattle.std.proofs.lemmas.List.{append-nil, append_assoc, take_all, take_more}
 use Rattle.std.proofs.lemmas.Option.{slice_get_read}
@@ -30,7 +30,7 @@ send_next lines n line sent all within item so_far one =
 pub send_all : (lines : List (List ℕ)) (n : ℕ) (sent : List Arrival) → length lines ≤ n → AllSend (take n lines) sent → AllSend lines sent
 send_all lines n sent past so_far = subst (λ ls. AllSend ls sent) (take_all n lines past) so_far
 
--- or it is amiss, and no line before it was
+-- or it is faulty, and no line before it was
 pub amiss_at : (lines : List (List ℕ)) (n : ℕ) (line : List ℕ) (sent : List Arrival) (error : TrafficError) → n < length lines →
     line ≡ get_or lines n line → AllSend (take n lines) sent → IsAmissIn line error →
     IsFirstAmiss lines (record { line = n + 1; error = error })

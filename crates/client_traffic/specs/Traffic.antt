@@ -1,4 +1,4 @@
--- What lines have clients send, as the shell reads them.
+-- What clients send by lines, as the shell reads them.
 use Rattle.std.specs.Prelude.{◌≡◌, ◌⊎◌, ℕ, ◌+◌, ◌-◌, ◌==◌, if◌then◌else◌, List, [], ◌∷◌, ◌++◌, Some}
 use Rattle.std.specs.Prelude.{length, slice_get, slice_index, take}
 use Rattle.std.specs.List.{slice_split}
@@ -15,7 +15,7 @@ use Rattle.client_traffic.specs.declared.TrafficError.TheVariants.{NoArrival, No
 use Rattle.client_traffic.specs.declared.TrafficFault.{TrafficFault}
 use Rattle.upgrade_rehearsal.specs.declared.arrival.Arrival.{Arrival}
 
--- The lines of a text: what stands between its newlines (10).
+-- The lines of a text: the bytes between its newlines (10).
 abbrev pub lines_of : List ℕ → List (List ℕ)
 lines_of text = slice_split (λ b. b == 10) text
 
@@ -27,7 +27,8 @@ bare line = if slice_index line (length line - 1) == 13 then take (length line -
 abbrev pub said_in : List ℕ → Spoken
 said_in line = spoken (Some (bare line))
 
--- A request has something sent where it is a `call`, a `cast` or a `send`, and its text is one term; and else it is told why not.
+-- A request sends something if it is a `call`, a `cast` or a `send`, and its text is one term; and else the reason is given why
+-- not.
 
 abbrev pub SentBy : Request → List Arrival → Type 0
 SentBy (ask question) sent = ⊥
@@ -67,7 +68,7 @@ IsAmissBy (relup from to) e = e ≡ NoArrival
 IsAmissBy (advance give_up) e = e ≡ NoArrival
 IsAmissBy sweep e = e ≡ NoArrival
 
--- A line sends nothing where it is blank or a comment, and else what its request does.
+-- A line sends nothing if it is blank or a comment, and else what its request sends.
 
 abbrev pub Sends : Spoken → List Arrival → Type 0
 Sends too_long sent = ⊥
@@ -81,11 +82,11 @@ IsAmiss silent e = ⊥
 IsAmiss unknown e = e ≡ NoArrival
 IsAmiss (asks request) e = IsAmissBy request e
 
--- a line is read, and what it sends comes behind what others have sent
+-- a line is read, and what it sends is appended to what others have sent
 abbrev pub Adds : List ℕ → List Arrival → List Arrival → Type 0
 Adds line old new = (sent : List Arrival) × Sends (said_in line) sent × (new ≡ old ++ sent)
 
--- A line is amiss so. Where memory was refused nothing is said of it.
+-- A line is faulty for this reason. Nothing is claimed about it if an allocation failed.
 abbrev pub IsAmissIn : List ℕ → TrafficError → Type 0
 IsAmissIn line e = (e ≡ Memory) ⊎ IsAmiss (said_in line) e
 
@@ -95,7 +96,7 @@ AllSend [] sent = sent ≡ []
 AllSend (line ∷ lines) sent = (first : List Arrival) × (behind : List Arrival)
     × Sends (said_in line) first × AllSend lines behind × (sent ≡ first ++ behind)
 
--- The first line that is no traffic, counted from 1: those before it are read, and this one is amiss.
+-- The first line that is no traffic, counted from 1: the lines before it are read, and this one is faulty.
 pub record IsFirstAmiss (lines : List (List ℕ)) (fault : TrafficFault) : Type 0 where
   pub index : ℕ
   pub counted : fault.line ≡ index + 1

@@ -1,10 +1,10 @@
-//! The traffic of a rehearsal, read from lines as the shell reads them: `call NAME TERM`, `cast NAME TERM`, `send NAME TERM`.
-//! A line may end with a carriage return, as editors on Windows write them: it is no part of the line.
+//! Reads the traffic of a rehearsal from lines as the shell reads them: `call NAME TERM`, `cast NAME TERM`, `send NAME TERM`. A
+//! line may end with a carriage return, as editors on Windows write them; it is no part of the line.
 //!
 //! # What is proved
 //!
-//! [`read_traffic`] has what each line sends, in order (`AllSend`); or the first line that sends nothing and is neither blank
-//! nor a comment, and why (`IsFirstAmiss`).
+//! [`read_traffic`] returns what each line sends, in order (`AllSend`). Or it returns the first line that sends nothing and is
+//! neither blank nor a comment, with the reason (`IsFirstAmiss`).
 #![tactic(auto)]
 
 ghost use Rattle.std.specs.Prelude.{◌≡◌, ◌⊎◌, ◌∷◌, [], MatchResult};
@@ -27,21 +27,21 @@ pub enum TrafficError {
     /// There is no term, or there are several.
     #[error("one term is sent")]
     NotOneTerm,
-    /// The term is faulty, so many bytes behind its begin.
+    /// The term is faulty, so many bytes after its beginning.
     #[error("the term is faulty: {0}")]
     Term(ReadError),
-    /// Memory was refused.
+    /// An allocation failed.
     #[error("out of memory")]
     Memory,
 }
 
-/// The first line that is no traffic, and why.
+/// The first line that is no traffic, and the reason.
 #[derive(Clone, Copy, Debug, PartialEq, Eq, Error)]
 #[error("line {line}: {error}")]
 pub struct TrafficFault {
     /// The line, counted from 1.
     pub line: usize,
-    /// What stands against it.
+    /// The reason why it is no traffic.
     pub error: TrafficError,
 }
 
@@ -49,8 +49,8 @@ pub struct TrafficFault {
 ///
 /// # Errors
 ///
-/// The first line that is no traffic, and why; or the one that was read when memory was refused. Nothing of the lines before
-/// it is kept.
+/// The first line that is no traffic, and the reason; or the line that was read when an allocation failed. Nothing of the lines
+/// before it is kept.
 pub fn read_traffic(alloc: Global, text: &str) -> Result<Vec<Arrival>, TrafficFault>
     ensures { MatchResult result (λ found. AllSend (lines_of text.now) found.items) (IsFirstAmiss (lines_of text.now)) }
 {
@@ -71,7 +71,7 @@ pub fn read_traffic(alloc: Global, text: &str) -> Result<Vec<Arrival>, TrafficFa
     Ok(found)
 }
 
-/// Puts what a line sends behind others, if it sends something.
+/// Appends what a line sends, if it sends something.
 fn push_line(alloc: Global, line: &str, found: &mut Vec<Arrival>) -> Result<(), TrafficError>
     ensures { MatchResult result (λ _. Adds line.now found.old.items found.new.items) (IsAmissIn line.now) }
 {
@@ -98,7 +98,7 @@ fn bare(line: &[u8]) -> &[u8]
     }
 }
 
-/// What a client sends.
+/// Returns what a client sends.
 fn arrival_of(
     alloc: Global,
     kind: ArrivalKind,

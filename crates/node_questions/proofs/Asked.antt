@@ -9,7 +9,7 @@ use Rattle.std.specs.List.{flat_map, list_any}
 use Rattle.std.specs.Option.{unwrap_or}
 
 module _ {X : Type 0} where
-  -- the items up to one, and that
+  -- the items up to one, and that one
   one_more : (xs : List X) (n : ℕ) (x : X) → n < length xs → x ≡ get_or xs n x → take (n + 1) xs ≡ take n xs ++ x ∷ []
   one_more xs n x within item = take_more xs n x within ∙ ap (λ y. take n xs ++ y ∷ []) (sym item)
 

@@ -1,1 +1,5 @@
 pub mod Asked
+pub mod Differing
+pub mod Noted
+pub mod Shaped
+pub mod Turns

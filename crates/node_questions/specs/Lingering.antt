@@ -1,4 +1,4 @@
--- Who lingers in old code (erlang:check_process_code/2).
+-- Processes that linger in old code (erlang:check_process_code/2).
 use Rattle.std.specs.Prelude.{ℕ, List, map}
 use Rattle.std.specs.List.{flat_map}
 use Rattle.code_loading.specs.Loading.{lingering_in}
@@ -6,7 +6,7 @@ use Rattle.code_server.specs.declared.modules.Slots.{Slots}
 use Rattle.erl_ir.specs.Module.{Forms}
 use Rattle.process_store.specs.Table.{Table}
 
--- A module with each process that lingers in its old code; and so each module of a table.
+-- A module with each process that lingers in its old code; and the same for each module of a table.
 
 abbrev pub lingerers_of : Table → List ℕ × Slots Forms → List (List ℕ × ℕ)
 lingerers_of t entry = map (λ pid. (entry.0, pid)) (lingering_in entry.1.former t)

@@ -1,4 +1,4 @@
--- The modules that an instruction suspends, and nobody for them (appup(4), suspend).
+-- The modules that an instruction suspends, though no process is suspended by them (appup(4), suspend).
 use Rattle.std.specs.Prelude.{ℕ, Bool, not, ◌||◌, List, [], map, filter, Option, None, Some}
 use Rattle.std.specs.List.{list_any}
 use Rattle.app_table.specs.Applications.{Application}
@@ -23,9 +23,9 @@ suspended_by (Some (Stop modules)) = []
 suspended_by (Some (Start modules)) = []
 suspended_by (Some (Apply name function arguments)) = []
 
--- Nobody is ever suspended for a module that no child names in its specification, whether its process lives or not: a child that
--- runs a loop function counts, though no instruction suspends it. A callback module of an application doesn't count, for its
--- supervisor is no process here.
+-- No process is ever suspended by a module that no child names in its specification, whether the child's process lives or not. A
+-- child that runs a loop function counts, though no instruction suspends it. A callback module of an application is not among
+-- these modules, for its supervisor is no process here.
 
 abbrev pub is_known_by : List ℕ → Application → Bool
 is_known_by m a = is_start_module m a.spec.start || list_any (has_module m) a.children

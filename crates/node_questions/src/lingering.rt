@@ -10,7 +10,7 @@ use process_table::Processes;
 use std::alloc::{AllocError, Global};
 use values::{Duplicate, Row};
 
-/// Puts a module behind others with each process that uses the code of a serial.
+/// Appends a module with each process that uses the code of a serial.
 fn push_users(
     alloc: Global,
     processes: &Processes,
@@ -27,7 +27,7 @@ fn push_users(
     Ok(())
 }
 
-/// Puts a module behind others with each process that uses its old code, if it has any.
+/// Appends a module with each process that uses its old code, if it has any.
 fn push_lingerers(
     alloc: Global,
     processes: &Processes,
@@ -43,12 +43,12 @@ fn push_lingerers(
     }
 }
 
-/// The modules with old code, each with every process that still uses it: modules in order, and the processes of each in order
-/// of pid (erlang:check_process_code/2).
+/// Returns the modules with old code, each with every process that still uses it: modules in order, and the processes of each in
+/// order of pid (erlang:check_process_code/2).
 ///
 /// # Errors
 ///
-/// Memory is refused.
+/// An allocation fails.
 pub fn lingerers(
     alloc: Global,
     modules: &Modules<Module>,

@@ -1,4 +1,4 @@
-// The modules that an instruction suspends, and nobody for them.
+// The modules that an instruction suspends, though no process is suspended by them.
 ghost use Rattle.std.specs.Prelude.{◌≡◌, ◌∷◌, ◌++◌, [], IfOk, OnOk, filter, map};
 ghost use Rattle.std.specs.List.{list_any};
 ghost use Rattle.app_table.specs.Modules.{has_module};
@@ -25,7 +25,7 @@ fn is_known_by(app: &App, name: &Atom) -> bool
     is_start_module(&app.spec().start, name) || is_named(app.children(), name)
 }
 
-/// Returns whether a module is known so by an application.
+/// Returns whether a module is named by a child of some application, or is the callback module of an application.
 fn is_known(apps: &AppTable, name: &Atom) -> bool
     ensures { result ≡ is_known name.now apps.now }
 {
@@ -40,7 +40,7 @@ fn is_known(apps: &AppTable, name: &Atom) -> bool
     false
 }
 
-/// Appends a module if nobody is ever suspended for it.
+/// Appends a module, if no process is ever suspended by it.
 fn push_idle(
     alloc: Global,
     apps: &AppTable,
@@ -55,7 +55,7 @@ fn push_idle(
     Ok(())
 }
 
-/// Of modules that are suspended, those for which nobody is.
+/// Returns the modules among these suspensions by which no process is suspended.
 fn idle_modules(
     alloc: Global,
     apps: &AppTable,
@@ -70,12 +70,12 @@ fn idle_modules(
     Ok(found)
 }
 
-/// Returns the modules that an instruction suspends and that no child names, in order, but for callback modules of applications.
+/// Returns the modules that an instruction suspends and that no child names, in order, except callback modules of applications.
 ///
 /// # Errors
 ///
-/// Memory is refused.
-pub fn nobody_of(
+/// An allocation fails.
+pub(crate) fn nobody_of(
     alloc: Global,
     apps: &AppTable,
     instruction: &Option<Low>,

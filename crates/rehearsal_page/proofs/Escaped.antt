@@ -19,7 +19,7 @@ any-append : (xs ys : List ℕ) → list_any is_bracket xs ≡ false → list_an
 any-append [] ys none others = others
 any-append (x ∷ xs) ys none others = any-behind (is_bracket x) (list_any is_bracket xs) (list_any is_bracket (xs ++ ys)) none (λ rest. any-append xs ys rest others)
 
--- a choice has no bracket where what is chosen has none
+-- a choice has no bracket if what is chosen has none
 any-if : (chosen : Bool) (xs ys : List ℕ) → list_any is_bracket xs ≡ false → (chosen ≡ false → list_any is_bracket ys ≡ false) → list_any is_bracket (if chosen then xs else ys) ≡ false
 any-if true xs ys here there = here
 any-if false xs ys here there = there refl

@@ -20,7 +20,7 @@ pub read-text : {S E : Type 0} (now : S → List ℕ) (text : List ℕ) (r : Res
 read-text now text (Ok s) d read Bad cases is valid = ap now is ∙ cases.0
 read-text now text (Err e) d read Bad cases is valid = absurd (cases.0 valid)
 
--- how a text is shown, or none where the bytes are no text
+-- how a text is shown, or nothing if the bytes are no text
 pub shown-of : (text read begun shown : List ℕ) → (IsUtf8 text → read ≡ text) → begun ≡ [] → IsUtf8 shown → (IsOneLine (chars begun) → IsOneLine (chars shown)) → (IsOneLine (chars read) → chars shown ≡ chars begun ++ chars read) → IsShown text shown
 shown-of text read begun shown reads nothing whole one_line plain =
     let none : chars begun ≡ [] = ap chars nothing ∙ chars-nil in

@@ -1,4 +1,4 @@
--- Pieces are written one behind the other, and none but their markup has brackets.
+-- Pieces are written one after the other, and only their markup has brackets.
 use Rattle.std.proofs.Common.{◌≡◌, ◌∙◌, refl, sym, ap, subst, ℕ, ◌+◌, ◌^◌, ◌<◌, ◌%◌, ◌==◌, ◌||◌, Bool, true, false, cond, if◌then◌else◌, List, [], ◌∷◌, ◌++◌, length, take, get_or, append_assoc, append-nil, arith, Result, Ok, Err, is_ok, OnOk}
 use Rattle.std.specs.Fmt.{decimal}
 use Rattle.std.specs.List.{list_any}
@@ -37,7 +37,7 @@ brackets-more parts i d old mid new less so_far one =
     sym (filter-append is_bracket front (markup_in part)) ∙ ap brackets (sym (markup-more (take i parts) part) ∙ ap markup_of (sym (take_more parts i d less))) in
     one ∙ ap (λ l. l ++ brackets (markup_in part)) so_far ∙ append_assoc (brackets old) (brackets front) (brackets (markup_in part)) ∙ ap (λ l. brackets old ++ l) both
 
--- bytes without brackets behind others
+-- bytes without brackets after others
 pub plain-behind : (old new bytes : List ℕ) → new ≡ old ++ bytes → brackets bytes ≡ [] → brackets new ≡ brackets old
 plain-behind old new bytes is none =
     ap brackets is ∙ filter-append is_bracket old bytes ∙ ap (λ l. brackets old ++ l) none ∙ append-nil (brackets old)
@@ -75,7 +75,7 @@ number-is-plain n small =
     (λ m less. last-is-plain [] m less refl)
     (λ m digits more none. last-is-plain digits (m % 10) (omega arith) none) n small
 
--- what is appended where there is memory
+-- what is appended if no allocation fails
 pub appended : {T E : Type 0} (r : Result T E) (old new bytes : List ℕ) → new ≡ (if is_ok r then old ++ bytes else old) → OnOk r (new ≡ old ++ bytes)
 appended (Ok x) old new bytes is = is
 appended (Err e) old new bytes is = tt

@@ -1,8 +1,8 @@
--- How a text stands in a page (HTML, Character references).
+-- Texts in a page (HTML, Character references).
 use Rattle.std.specs.Prelude.{ℕ, ◌==◌, ◌||◌, Bool, List, [], ◌∷◌, codes, filter, if◌then◌else◌}
 use Rattle.std.specs.List.{flat_map}
 
--- A byte of a text: `&`, `<`, `>`, `"` and `'` as references, and any other as it is. All of UTF-8's bytes of other characters
+-- A byte of a text: `&`, `<`, `>`, `"` and `'` as references, and any other unchanged. All bytes of other characters in UTF-8
 -- are above 127.
 abbrev pub escaped_byte : ℕ → List ℕ
 escaped_byte b =
@@ -20,6 +20,6 @@ escaped text = flat_map escaped_byte text
 abbrev pub is_bracket : ℕ → Bool
 is_bracket b = (b == 60) || ((b == 62) || ((b == 34) || (b == 39)))
 
--- those of some bytes, in order
+-- the brackets among some bytes, in order
 abbrev pub brackets : List ℕ → List ℕ
 brackets bytes = filter is_bracket bytes

@@ -1,11 +1,11 @@
--- What a page is written behind, and what it begins with.
+-- What a page is appended to, and what it begins with.
 use Rattle.std.specs.Prelude.{◌≡◌, ℕ, List, ◌++◌, codes}
 
--- what stood there stands before what is there now
+-- the old bytes are before the new ones
 unfoldable pub StandsBefore : List ℕ → List ℕ → Type 0
 StandsBefore old new = (more : List ℕ) × (new ≡ old ++ more)
 
--- What a page begins with. Its policy has a browser load nothing from elsewhere, whatever the page says behind it (Content
+-- The beginning of a page. Its policy has a browser load nothing from elsewhere, whatever the page says after it (Content
 -- Security Policy, The <meta> element).
 abbrev pub page_begin : List ℕ
 page_begin =

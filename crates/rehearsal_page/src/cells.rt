@@ -1,10 +1,10 @@
-// The cells of the timeline: what a process does behind a step.
+// The cells of the timeline: what a process does after a step.
 use crate::columns::Column;
 use node_views::{Doing, ProcessView};
 use rehearsal_report::doing_word;
 use values::Same;
 
-/// What a process does behind a step.
+/// What a process does after a step.
 #[derive(Clone, Copy)]
 pub(crate) enum Kind {
     /// It rests.
@@ -17,11 +17,11 @@ pub(crate) enum Kind {
     Ended,
     /// It was started at this step.
     New,
-    /// It isn't there, neither before nor behind.
+    /// It isn't there, neither before nor after.
     Absent,
 }
 
-/// All kinds, as the legend has them.
+/// All kinds, in the order of the legend.
 pub(crate) const KINDS: [Kind; 6] = [
     Kind::Idle,
     Kind::Running,
@@ -32,7 +32,7 @@ pub(crate) const KINDS: [Kind; 6] = [
 ];
 
 impl Kind {
-    /// Its class in the style.
+    /// Returns its class in the style.
     pub(crate) fn class(self) -> &'static [u8] {
         match self {
             Kind::Idle => b"i",
@@ -44,7 +44,7 @@ impl Kind {
         }
     }
 
-    /// Its sign, so that nobody has to tell it by its colour.
+    /// Returns its sign, which shows the kind without its colour.
     pub(crate) fn sign(self) -> &'static [u8] {
         match self {
             Kind::Idle => "○".as_bytes(),
@@ -56,7 +56,7 @@ impl Kind {
         }
     }
 
-    /// Its word.
+    /// Returns its word.
     pub(crate) fn word(self) -> &'static [u8] {
         match self {
             Kind::Idle => doing_word(&Doing::Idle),
@@ -69,19 +69,19 @@ impl Kind {
     }
 }
 
-/// What stands in a cell.
+/// The content of a cell.
 #[derive(Clone, Copy)]
 pub(crate) struct Cell {
     /// What the process does.
     pub(crate) kind: Kind,
     /// Whether the instruction has changed it.
     pub(crate) is_changed: bool,
-    /// Whether the traffic behind the instruction has changed it.
+    /// Whether the traffic after the instruction has changed it.
     pub(crate) is_played: bool,
 }
 
 impl Cell {
-    /// The cell of a process behind a step.
+    /// Returns the cell of a process after a step.
     pub(crate) fn of(column: &Column<'_>, pid: u64) -> Cell {
         let before = column.before.process(pid);
         let behind = column.station.behind.process(pid);
@@ -93,7 +93,7 @@ impl Cell {
         }
     }
 
-    /// The classes of what has changed it, behind that of its kind.
+    /// Returns the classes of what has changed it, to be written after that of its kind.
     pub(crate) fn mark_classes(self) -> &'static [u8] {
         match (self.is_changed, self.is_played) {
             (true, true) => b" c t",
@@ -103,7 +103,7 @@ impl Cell {
         }
     }
 
-    /// What has changed it in words, behind that of its kind.
+    /// Returns the words of what has changed it, to be written after that of its kind.
     pub(crate) fn mark_words(self) -> &'static [u8] {
         match (self.is_changed, self.is_played) {
             (true, true) => b", changed by the instruction, changed by the traffic",
@@ -114,7 +114,8 @@ impl Cell {
     }
 }
 
-/// What a process does that was there before a step, or at it, or not, and is there after it, or not.
+/// Returns what a process does, given the process before a step and after it, if it was there, and whether it was there before
+/// or at the step.
 fn kind_of(before: Option<&ProcessView>, was_there: bool, after: Option<&ProcessView>) -> Kind {
     match (before, after) {
         (Some(_), Some(process)) => kind_of_doing(&process.doing),
@@ -123,7 +124,7 @@ fn kind_of(before: Option<&ProcessView>, was_there: bool, after: Option<&Process
     }
 }
 
-/// The kind of what a process does.
+/// Returns the kind of what a process does.
 fn kind_of_doing(doing: &Doing) -> Kind {
     match doing {
         Doing::Idle => Kind::Idle,
@@ -132,7 +133,7 @@ fn kind_of_doing(doing: &Doing) -> Kind {
     }
 }
 
-/// Whether a process is as it was, or was and is not there.
+/// Returns whether a process is unchanged, or is not there before or after.
 fn is_one(before: Option<&ProcessView>, after: Option<&ProcessView>) -> bool {
     match (before, after) {
         (None, None) => true,

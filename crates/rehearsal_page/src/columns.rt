@@ -1,4 +1,4 @@
-// The steps, as columns of the timeline.
+// The steps as columns of the timeline.
 use low_instructions::{Direction, Low};
 use node_views::NodeView;
 use rehearsals::{Rehearsal, Station, Way};
@@ -7,18 +7,18 @@ use std::alloc::{AllocError, Global};
 /// A step.
 #[derive(Clone, Copy)]
 pub(crate) struct Column<'a> {
-    /// The way that it is on.
+    /// The way of the step.
     pub(crate) way: Direction,
-    /// Its index there, from 0.
+    /// Its index on the way, from 0.
     pub(crate) index: usize,
     /// The node before it.
     pub(crate) before: &'a NodeView,
-    /// What was seen of it.
+    /// Its record.
     pub(crate) station: &'a Station,
 }
 
 impl Column<'_> {
-    /// Returns whether a failure of it and of those after it restarts the node.
+    /// Returns whether a failure of the step or of a later one restarts the node.
     pub(crate) fn is_point_of_no_return(&self) -> bool {
         matches!(self.station.instruction, Some(Low::PointOfNoReturn))
     }
@@ -28,23 +28,23 @@ impl Column<'_> {
         !self.station.outcome.is_carried_out() && !self.station.outcome.is_end()
     }
 
-    /// Whether it is the first one of the way down.
+    /// Returns whether it is the first step of the way down.
     pub(crate) fn begins_down(&self) -> bool {
         matches!(self.way, Direction::Down) && self.index == 0
     }
 
-    /// Its number on its way, from 1.
+    /// Returns its number on its way, from 1.
     pub(crate) fn number(&self) -> u64 {
         number_of(self.index)
     }
 }
 
-/// The number, from 1, of what has an index, from 0.
+/// Returns the number, from 1, for an index, from 0.
 pub(crate) fn number_of(index: usize) -> u64 {
     (index as u64).saturating_add(1)
 }
 
-/// The steps of a rehearsal: those of the way up, and then those of the way down.
+/// Returns the steps of a rehearsal: those of the way up, and then those of the way down.
 pub(crate) fn columns_of<'a>(
     alloc: Global,
     rehearsal: &'a Rehearsal,
@@ -57,7 +57,7 @@ pub(crate) fn columns_of<'a>(
     Ok(found)
 }
 
-/// Puts the steps of a way behind others.
+/// Appends the steps of a way.
 fn push_way<'a>(
     direction: Direction,
     way: &'a Way,

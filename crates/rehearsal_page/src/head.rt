@@ -15,7 +15,7 @@ use rehearsal_report::{
 use rehearsals::Rehearsal;
 use std::alloc::{AllocError, Global};
 
-/// What stands before the title. The policy has a browser load nothing from elsewhere, whatever the page says.
+/// The bytes before the title. The policy has a browser load nothing from elsewhere, whatever the page says.
 const BEGIN: &[u8] = b"<!doctype html>
 <html lang=\"en\">
 <head>
@@ -26,7 +26,7 @@ const BEGIN: &[u8] = b"<!doctype html>
  style-src 'unsafe-inline'; script-src 'unsafe-inline'\">
 <title>";
 
-/// Writes the head of the page: what is rehearsed, the verdict, what fails if something does, and how many findings there are.
+/// Writes the head of the page: what is rehearsed, the verdict, what fails if something fails, and the number of findings.
 pub(crate) fn put_page_head(
     report: &Report<'_>,
     alloc: Global,
@@ -43,7 +43,7 @@ pub(crate) fn put_page_head(
     put_count(report, alloc, out)
 }
 
-/// Writes the title, with how the page looks, and the heading.
+/// Writes the title with the style, and the heading.
 fn put_title(title: &[u8], alloc: Global, out: &mut Vec<u8>) -> Result<(), AllocError>
     ensures { OnOk result (StandsBefore (out.old.items ++ page_begin) out.new.items) }
 {
@@ -95,7 +95,7 @@ fn verdict_class(report: &Report<'_>) -> &'static [u8] {
     }
 }
 
-/// Writes what fails and why, if something does.
+/// Writes what fails and why, if something fails.
 fn put_what_fails(rehearsal: &Rehearsal, alloc: Global, out: &mut Vec<u8>) -> Result<(), AllocError>
     ensures { OnOk result (StandsBefore out.old.items out.new.items) }
 {
@@ -107,7 +107,7 @@ fn put_what_fails(rehearsal: &Rehearsal, alloc: Global, out: &mut Vec<u8>) -> Re
     put_bad(text.as_slice(), alloc, out)
 }
 
-/// Writes that the node was not as before once all was undone, if it was not.
+/// Writes that the node was not as before after all was undone, if it was not.
 fn put_undone(rehearsal: &Rehearsal, alloc: Global, out: &mut Vec<u8>) -> Result<(), AllocError>
     ensures { OnOk result (StandsBefore out.old.items out.new.items) }
 {
@@ -128,7 +128,7 @@ fn put_bad(text: &[u8], alloc: Global, out: &mut Vec<u8>) -> Result<(), AllocErr
     )
 }
 
-/// Writes how many findings there are, and ends the head.
+/// Writes the number of findings, and ends the head.
 fn put_count(report: &Report<'_>, alloc: Global, out: &mut Vec<u8>) -> Result<(), AllocError>
     ensures { OnOk result (StandsBefore out.old.items out.new.items) }
 {

@@ -16,11 +16,11 @@ use crate::wrong::put_wrong;
 use rehearsal_report::{Report, finding_count};
 use std::alloc::{AllocError, Global};
 
-/// Writes a report as a page: one HTML file without any part from elsewhere.
+/// Writes a report as a page: one HTML file that loads nothing from elsewhere.
 ///
 /// # Errors
 ///
-/// `AllocError` where memory is refused.
+/// `AllocError` if an allocation fails.
 pub fn write_page(alloc: Global, report: &Report<'_>, out: &mut Vec<u8>) -> Result<(), AllocError>
     ensures { OnOk result (StandsBefore (out.old.items ++ page_begin) out.new.items) }
 {
@@ -39,7 +39,7 @@ pub fn write_page(alloc: Global, report: &Report<'_>, out: &mut Vec<u8>) -> Resu
     )
 }
 
-/// Writes what stands between the head and the script.
+/// Writes what is between the head and the script.
 fn put_main(
     report: &Report<'_>,
     columns: &[Column<'_>],

@@ -1,4 +1,4 @@
-// The pieces of a page, which alone are written into it.
+// The pieces of a page; nothing else is written into it.
 ghost use Rattle.std.specs.Fmt.{decimal};
 ghost use Rattle.std.specs.Prelude.{◌≡◌, ◌++◌, OnOk};
 ghost use Rattle.rehearsal_page.specs.Escaping.{brackets, escaped, escaped_byte};
@@ -13,20 +13,19 @@ use std::str;
 /// from elsewhere can be markup.
 #[derive(Clone, Copy)]
 pub(crate) enum Part<'a> {
-    /// Markup, or a word of the program's, which stands as it is.
+    /// Markup, or a word of the program, which is written unchanged.
     Markup(&'static [u8]),
-    /// A text, which stands for itself between tags and in a value between quotes, whatever it is.
+    /// A text, which is shown as it is between tags and in a value between quotes, whatever it has.
     Text(&'a [u8]),
     /// A number, in decimal.
     Number(u64),
 }
 
-/// Appends pieces of a page, one behind the other. Outside of this module nothing is appended to a
-/// page but by this function.
+/// Appends pieces of a page, one after the other. Outside of this module only this function appends to a page.
 ///
 /// # Errors
 ///
-/// `AllocError` where memory is refused; a front of the pieces may have been appended then.
+/// `AllocError` if an allocation fails; the first bytes of the pieces may have been appended then.
 pub(crate) fn put_parts(
     parts: &[Part<'_>],
     alloc: Global,
@@ -67,7 +66,7 @@ fn put_number(number: u64, alloc: Global, out: &mut Vec<u8>) -> Result<(), Alloc
     out.extend_from_slice(text.as_bytes())
 }
 
-/// Appends a text: hidden characters as escapes of Erlang's, and those of markup as references.
+/// Appends a text: hidden characters as Erlang's escapes, and those of markup as references.
 fn put_text(text: &[u8], alloc: Global, out: &mut Vec<u8>) -> Result<(), AllocError>
     ensures written { OnOk result (Adds (IsTextWritten text.now) out.old.items out.new.items) }
     ensures brackets { OnOk result (brackets out.new.items ≡ brackets out.old.items) }
@@ -77,11 +76,11 @@ fn put_text(text: &[u8], alloc: Global, out: &mut Vec<u8>) -> Result<(), AllocEr
     put_escaped(shown.as_bytes(), out)
 }
 
-/// Appends a text so that it stands for itself between tags and in a value between quotes.
+/// Appends a text so that it is shown as it is between tags and in a value between quotes.
 ///
 /// # Errors
 ///
-/// `AllocError` where memory is refused; a front of the text may have been appended then.
+/// `AllocError` if an allocation fails; the first bytes of the text may have been appended then.
 pub fn put_escaped(text: &[u8], out: &mut Vec<u8>) -> Result<(), AllocError>
     ensures { OnOk result (out.new.items ≡ out.old.items ++ escaped text.now) }
 {
@@ -91,7 +90,7 @@ pub fn put_escaped(text: &[u8], out: &mut Vec<u8>) -> Result<(), AllocError>
     Ok(())
 }
 
-/// Appends a byte of a text, one of markup as a reference.
+/// Appends a byte of a text; a byte of markup as a reference.
 fn put_byte(byte: u8, out: &mut Vec<u8>) -> Result<(), AllocError>
     ensures { OnOk result (out.new.items ≡ out.old.items ++ escaped_byte byte) }
 {

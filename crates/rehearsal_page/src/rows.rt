@@ -1,10 +1,10 @@
-// The processes, as rows of the timeline.
+// The processes as rows of the timeline.
 use crate::cells::Cell;
 use crate::columns::Column;
 use node_views::NodeView;
 use std::alloc::{AllocError, Global};
 
-/// How many processes the timeline has at most, so that a browser bears it.
+/// The largest number of processes in the timeline, so that a browser can handle it.
 const MOST_ROWS: usize = 200;
 
 /// A process that lived at some step.
@@ -23,18 +23,18 @@ pub(crate) struct Row<'a> {
 pub(crate) struct Rows<'a> {
     /// Those that are shown, the least pid first.
     pub(crate) shown: Vec<Row<'a>>,
-    /// How many are left out.
+    /// The number of rows that are left out.
     pub(crate) left_out: usize,
 }
 
 impl Rows<'_> {
-    /// Whether a process is shown.
+    /// Returns whether a process is shown.
     pub(crate) fn shows(&self, pid: u64) -> bool {
         self.shown.as_slice().iter().any(|row| row.pid == pid)
     }
 }
 
-/// The rows of a rehearsal. Of too many processes those are shown that an instruction changes first.
+/// Returns the rows of a rehearsal. If there are too many processes, those are shown that an instruction changes first.
 pub(crate) fn rows_of<'a>(alloc: Global, columns: &[Column<'a>]) -> Result<Rows<'a>, AllocError> {
     let mut all = Vec::new(alloc);
     for pid in 0..pids(columns) {
@@ -48,7 +48,7 @@ pub(crate) fn rows_of<'a>(alloc: Global, columns: &[Column<'a>]) -> Result<Rows<
     Ok(Rows { shown, left_out })
 }
 
-/// How many pids were given.
+/// Returns the number of pids that were given.
 fn pids(columns: &[Column<'_>]) -> u64 {
     let mut most = 0;
     for column in columns {
@@ -59,7 +59,7 @@ fn pids(columns: &[Column<'_>]) -> u64 {
     most as u64
 }
 
-/// The first node in which a process lives.
+/// Returns the first node in which a process lives.
 fn home_of<'a>(columns: &[Column<'a>], pid: u64) -> Option<&'a NodeView> {
     for column in columns {
         if column.before.process(pid).is_some() {
@@ -75,7 +75,7 @@ fn home_of<'a>(columns: &[Column<'a>], pid: u64) -> Option<&'a NodeView> {
     None
 }
 
-/// The first column at which an instruction changes a process, or the number of columns.
+/// Returns the first column at which an instruction changes a process, or the number of columns.
 fn first_change(columns: &[Column<'_>], pid: u64) -> usize {
     match columns
         .iter()
@@ -86,12 +86,12 @@ fn first_change(columns: &[Column<'_>], pid: u64) -> usize {
     }
 }
 
-/// How many rows change before a column.
+/// Returns the number of rows that change before a column.
 fn changed_before(rows: &[Row<'_>], column: usize) -> usize {
     rows.iter().filter(|row| row.first < column).count()
 }
 
-/// The last column before which no more rows change than there is room for.
+/// Returns the last column before which no more rows change than there is room for.
 fn last_fitting(rows: &[Row<'_>], columns: usize) -> usize {
     let mut last = 0;
     for column in 0..=columns {
@@ -102,8 +102,8 @@ fn last_fitting(rows: &[Row<'_>], columns: usize) -> usize {
     last
 }
 
-/// The rows that are shown: those that change before the last fitting column, and of those that change there as many
-/// as there is room for.
+/// Returns the rows that are shown: those that change before the last fitting column, and of those that change there as many as
+/// there is room for.
 fn chosen<'a>(alloc: Global, rows: &[Row<'a>], columns: usize) -> Result<Vec<Row<'a>>, AllocError> {
     let last = last_fitting(rows, columns);
     let mut room = MOST_ROWS.saturating_sub(changed_before(rows, last));

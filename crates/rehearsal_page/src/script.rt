@@ -1,11 +1,11 @@
-// What the page does when it is clicked.
+// The scripts of the page.
 
-/// What is run before the page is laid out: from then on the style shows one step at a time.
+/// A script that runs before the page is laid out: from then on the style shows one step at a time.
 pub(crate) const BEGIN_SCRIPT: &[u8] = b"document.documentElement.className = 'js';";
 
-/// What is run behind the page. A click on a cell or a head, and a link to a head, show the step, and of a cell the
-/// whole states of its process before and after: where the step has not changed it, those of the last step before
-/// that has. The first step that fails or that a finding is about is shown at first. Arrows go from cell to cell.
+/// A script that runs after the page. A click on a cell or a head, and a link to a head, show the step. For a cell, they also
+/// show the whole states of its process before and after; if the step has not changed it, those of the last step before that
+/// has. The first step that fails or that a finding is about is shown at first. Arrows go from cell to cell.
 pub(crate) const SCRIPT: &[u8] = b"\
 (function () {
   var find = function (id) { return document.getElementById(id); };

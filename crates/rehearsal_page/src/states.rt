@@ -1,4 +1,4 @@
-// What a process does, where it rests, whole, and how many messages it has served.
+// What a process does, its whole state, and the number of messages that it has served.
 #![tactic(auto, using(crate::proofs::Standing::standing))]
 
 ghost use Rattle.std.specs.Prelude.{OnOk};
@@ -12,7 +12,7 @@ use node_views::{Doing, ProcessView};
 use rehearsal_report::{Extent, doing_word, put_standing};
 use std::alloc::{AllocError, Global};
 
-/// Writes what is seen of a process, or that it isn't there.
+/// Writes the view of a process, or that it isn't there.
 pub(crate) fn put_state(
     process: Option<&ProcessView>,
     alloc: Global,
@@ -26,7 +26,8 @@ pub(crate) fn put_state(
     }
 }
 
-/// Writes what a process does, where it rests, how many messages it has served, and those that wait for it.
+/// Writes what a process does, the place at which it rests, the number of messages that it has served, and those that wait for
+/// it.
 fn put_process_state(
     process: &ProcessView,
     alloc: Global,
@@ -60,7 +61,7 @@ fn put_message(message: &Term, alloc: Global, out: &mut Vec<u8>) -> Result<(), A
     put_parts(&[Markup(b" "), Text(text.as_slice())], alloc, out)
 }
 
-/// Writes where a process rests.
+/// Writes the place at which a process rests.
 fn put_place(process: &ProcessView, alloc: Global, out: &mut Vec<u8>) -> Result<(), AllocError>
     ensures { OnOk result (StandsBefore out.old.items out.new.items) }
 {

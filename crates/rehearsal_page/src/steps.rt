@@ -1,4 +1,4 @@
-// What was seen of each step.
+// The sections of the steps.
 #![tactic(auto, using(crate::proofs::Standing::standing))]
 
 ghost use Rattle.std.specs.Prelude.{OnOk};
@@ -20,17 +20,17 @@ use rehearsal_report::{
 use rehearsals::{Rehearsal, Station};
 use std::alloc::{AllocError, Global};
 
-/// A node before something that changes it, and behind it.
+/// A node before something that changes it, and after it.
 #[derive(Clone, Copy)]
 struct Views<'a> {
     /// The node before.
     before: &'a NodeView,
-    /// The node behind.
+    /// The node after.
     after: &'a NodeView,
 }
 
-/// Writes what was seen before the way up and of each step, a section each. The first section is the script's, for
-/// the process that is chosen.
+/// Writes what was seen before the way up and of each step, a section each. The first section is for the script, which shows the
+/// process that is chosen there.
 pub(crate) fn put_steps(
     rehearsal: &Rehearsal,
     columns: &[Column<'_>],
@@ -108,7 +108,7 @@ fn put_start_item(
     put_parts(&[Markup(b"</code></li>\n")], alloc, out)
 }
 
-/// Begins what is told of a process, with this text.
+/// Begins the item of a process, with this text.
 fn put_item_begin(pid: u64, text: &[u8], alloc: Global, out: &mut Vec<u8>) -> Result<(), AllocError>
     ensures { OnOk result (StandsBefore out.old.items out.new.items) }
 {
@@ -140,7 +140,7 @@ fn put_step(
     put_step_end(column.station, alloc, out)
 }
 
-/// Begins the section of a step, with where it is and its whole instruction.
+/// Begins the section of a step, with its place and its whole instruction.
 fn put_step_head(column: &Column<'_>, alloc: Global, out: &mut Vec<u8>) -> Result<(), AllocError>
     ensures { OnOk result (StandsBefore out.old.items out.new.items) }
 {
@@ -172,7 +172,7 @@ fn put_step_head(column: &Column<'_>, alloc: Global, out: &mut Vec<u8>) -> Resul
     )
 }
 
-/// Writes what a step came to.
+/// Writes the outcome of a step.
 fn put_came(station: &Station, alloc: Global, out: &mut Vec<u8>) -> Result<(), AllocError>
     ensures { OnOk result (StandsBefore out.old.items out.new.items) }
 {
@@ -188,7 +188,7 @@ fn put_paragraph(text: &[u8], alloc: Global, out: &mut Vec<u8>) -> Result<(), Al
     put_parts(&[Markup(b"<p>"), Text(text), Markup(b"</p>\n")], alloc, out)
 }
 
-/// Writes what the instruction of a step has changed, and then what the traffic behind it has.
+/// Writes what the instruction of a step has changed, and then what the traffic after it has changed.
 fn put_step_changes(
     column: &Column<'_>,
     rows: &Rows<'_>,
@@ -280,7 +280,7 @@ fn put_item(text: &[u8], alloc: Global, out: &mut Vec<u8>) -> Result<(), AllocEr
     )
 }
 
-/// Writes how processes have changed, and how many that the timeline leaves out, and ends the list.
+/// Writes how processes have changed, and the number of those that the timeline leaves out, and ends the list.
 fn put_process_items(
     views: Views<'_>,
     pids: &[u64],
@@ -301,7 +301,7 @@ fn put_process_items(
     put_items_end(left_out, alloc, out)
 }
 
-/// Ends a list of processes, with how many are left out, if any are.
+/// Ends a list of processes, with the number of those that are left out, if any are.
 fn put_items_end(left_out: u64, alloc: Global, out: &mut Vec<u8>) -> Result<(), AllocError>
     ensures { OnOk result (StandsBefore out.old.items out.new.items) }
 {
@@ -349,7 +349,7 @@ fn put_state_before(
     put_parts(&[Markup(b"</code></dd>")], alloc, out)
 }
 
-/// Writes the whole state of a process after a change, and ends what is told of it.
+/// Writes the whole state of a process after a change, and ends its item.
 fn put_state_after(
     process: Option<&ProcessView>,
     alloc: Global,
@@ -380,7 +380,7 @@ fn put_replies(station: &Station, alloc: Global, out: &mut Vec<u8>) -> Result<()
     put_parts(&[Markup(b"</ul>\n")], alloc, out)
 }
 
-/// Whether any replies were sent.
+/// Returns whether any replies were sent.
 fn has_replies(station: &Station) -> bool {
     station
         .happened
@@ -408,7 +408,7 @@ fn put_reply_item(reply: &Reply, alloc: Global, out: &mut Vec<u8>) -> Result<(),
     put_item(text.as_slice(), alloc, out)
 }
 
-/// Ends the section of a step, with how it goes while jobs run and how it was undone.
+/// Ends the section of a step, with its trial while jobs run and how it was undone.
 fn put_step_end(station: &Station, alloc: Global, out: &mut Vec<u8>) -> Result<(), AllocError>
     ensures { OnOk result (StandsBefore out.old.items out.new.items) }
 {
@@ -417,7 +417,7 @@ fn put_step_end(station: &Station, alloc: Global, out: &mut Vec<u8>) -> Result<(
     put_parts(&[Markup(b"</section>\n")], alloc, out)
 }
 
-/// Writes how a step goes while jobs run, where there are any.
+/// Writes the trial of a step while jobs run, if there are any.
 fn put_jobs(station: &Station, alloc: Global, out: &mut Vec<u8>) -> Result<(), AllocError>
     ensures { OnOk result (StandsBefore out.old.items out.new.items) }
 {

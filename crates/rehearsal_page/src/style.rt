@@ -1,4 +1,4 @@
-// How the page looks: light and dark, wide, narrow and printed.
+// The style of the page: light and dark, wide, narrow and printed.
 
 /// The style.
 pub(crate) const STYLE: &[u8] = b"\

@@ -30,7 +30,7 @@ pub(crate) fn put_timeline(
     put_legend(alloc, out)
 }
 
-/// Begins the table, with its columns for the style: the one of the processes, and those of the steps.
+/// Begins the table, with its columns for the style: that of the processes, and those of the steps.
 fn put_widths(columns: &[Column<'_>], alloc: Global, out: &mut Vec<u8>) -> Result<(), AllocError>
     ensures { OnOk result (StandsBefore out.old.items out.new.items) }
 {
@@ -63,7 +63,7 @@ fn put_width(column: &Column<'_>, alloc: Global, out: &mut Vec<u8>) -> Result<()
     )
 }
 
-/// The classes of the lines beside a column.
+/// Returns the classes of the lines beside a column.
 fn line_classes(column: &Column<'_>) -> &'static [u8] {
     match (column.is_point_of_no_return(), column.begins_down()) {
         (true, true) => b" p d",
@@ -73,7 +73,7 @@ fn line_classes(column: &Column<'_>) -> &'static [u8] {
     }
 }
 
-/// How many of the columns are on a way.
+/// Returns the number of the columns that are on a way.
 fn width(columns: &[Column<'_>], way: Direction) -> usize {
     columns
         .iter()
@@ -81,7 +81,7 @@ fn width(columns: &[Column<'_>], way: Direction) -> usize {
         .count()
 }
 
-/// Whether two ways are one.
+/// Returns whether two ways are the same.
 fn is_one_way(one: Direction, other: Direction) -> bool {
     match (one, other) {
         (Direction::Up, Direction::Up) | (Direction::Down, Direction::Down) => true,
@@ -131,7 +131,7 @@ fn put_way_head(
     )
 }
 
-/// The class of the line before a way.
+/// Returns the class of the line before a way.
 fn way_class(way: Direction) -> &'static [u8] {
     match way {
         Direction::Up => b"",
@@ -168,7 +168,7 @@ fn put_column_head(column: &Column<'_>, alloc: Global, out: &mut Vec<u8>) -> Res
     put_heading_button(column.number(), text.as_slice(), alloc, out)
 }
 
-/// Begins the heading of a column, with its name in the page.
+/// Begins the heading of a column, with its anchor in the page.
 fn put_heading_begin(
     column: &Column<'_>,
     alloc: Global,
@@ -222,8 +222,8 @@ fn put_heading_button(
     )
 }
 
-/// The first word of an instruction: what stands in its tuple first, or the whole where it is none, without what is
-/// said of it.
+/// Returns the first word of an instruction: the first element of its tuple, or all of it if it is no tuple, without its
+/// explanation.
 fn first_word(text: &str) -> &str {
     let inside = match text.split_once('{') {
         Some((_, inside)) => inside,
@@ -336,7 +336,7 @@ fn put_cell_button(cell: Cell, alloc: Global, out: &mut Vec<u8>) -> Result<(), A
     )
 }
 
-/// Writes how many processes are left out, if any are.
+/// Writes the number of processes that are left out, if any are.
 fn put_left_out(left_out: usize, alloc: Global, out: &mut Vec<u8>) -> Result<(), AllocError>
     ensures { OnOk result (StandsBefore out.old.items out.new.items) }
 {

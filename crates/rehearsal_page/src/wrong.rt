@@ -1,4 +1,4 @@
-// What is likely wrong, the weightiest first.
+// What is likely wrong, the most important first.
 #![tactic(auto, using(crate::proofs::Standing::standing))]
 
 ghost use Rattle.std.specs.Prelude.{OnOk};
@@ -10,15 +10,15 @@ use crate::parts::put_parts;
 use crate::rows::Rows;
 use low_instructions::Direction;
 use rehearsal_report::{
-    KINDS, Kind, Report, Verdict, finding_advice, finding_count, is_allowed, kind_of_finding,
-    kind_of_observation, observation_advice, put_finding_fact, put_observation_fact, verdict_of,
-    way_word,
+    KINDS, Kind, Report, Verdict, finding_advice, finding_count, finding_place, is_allowed,
+    kind_of_finding, kind_of_observation, observation_advice, observation_place, put_finding_fact,
+    put_observation_fact, verdict_of, way_word,
 };
-use rehearsals::{Moment, Observation, Rehearsal, Way};
+use rehearsals::{Observation, Rehearsal, Way};
 use std::alloc::{AllocError, Global};
 use upgrade_review::Finding;
 
-/// What something is about, where it stands in the timeline.
+/// What something is about, and where that is in the timeline.
 #[derive(Clone, Copy)]
 enum About {
     /// A step.
@@ -53,7 +53,7 @@ pub(crate) fn put_wrong(
     put_parts(&[Markup(b"</ol>\n</section>\n")], alloc, out)
 }
 
-/// Returns the section if nothing was found: one that isn't shown if the upgrade fails all the same.
+/// Returns the section for no findings; it isn't shown if the upgrade fails all the same.
 fn none_found(report: &Report<'_>) -> &'static [u8] {
     match verdict_of(report) {
         Verdict::Fails => b"<section id=\"wrong\" hidden></section>\n",
@@ -63,7 +63,7 @@ fn none_found(report: &Report<'_>) -> &'static [u8] {
     }
 }
 
-/// Writes all that was found, one kind after the other.
+/// Writes all findings, one kind after the other.
 fn put_all(
     report: &Report<'_>,
     rows: &Rows<'_>,
@@ -78,7 +78,7 @@ fn put_all(
     Ok(())
 }
 
-/// Writes what was found of a kind.
+/// Writes the findings of a kind.
 fn put_of_kind(
     kind: Kind,
     report: &Report<'_>,
@@ -93,7 +93,7 @@ fn put_of_kind(
     put_observations(kind, report, rows, alloc, out)
 }
 
-/// Writes those of the findings that are of a kind.
+/// Writes the findings about the releases and the scripts that are of a kind.
 fn put_findings(
     kind: Kind,
     findings: &[Finding],
@@ -137,13 +137,13 @@ fn put_finding(
 {
     let mut fact = Vec::new(alloc);
     put_finding_fact(finding, alloc, &mut fact)?;
-    let about = about_finding(finding, report.rehearsal);
+    let about = about_place(finding_place(finding), report.rehearsal);
     put_fact(about, fact.as_slice(), alloc, out)?;
     put_kind(kind_of_finding(finding), report.allowed, alloc, out)?;
     put_advice(finding_advice(finding), alloc, out)
 }
 
-/// Writes those things that were seen and are of a kind.
+/// Writes the observations that are of a kind.
 fn put_observations(
     kind: Kind,
     report: &Report<'_>,
@@ -159,7 +159,7 @@ fn put_observations(
     Ok(())
 }
 
-/// Writes what was seen, if it is of a kind.
+/// Writes an observation, if it is of a kind.
 fn put_if_seen_of_kind(
     kind: Kind,
     observation: &Observation,
@@ -177,7 +177,7 @@ fn put_if_seen_of_kind(
     }
 }
 
-/// Writes what was seen.
+/// Writes an observation.
 fn put_observation(
     observation: &Observation,
     report: &Report<'_>,
@@ -216,7 +216,7 @@ fn put_kind(
     )
 }
 
-/// Returns what is said of a kind if it is allowed.
+/// Returns the words for a kind if it is allowed.
 fn allowed_words(kind: Kind, allowed: &[Kind]) -> &'static [u8] {
     if is_allowed(allowed, kind) {
         b", allowed"
@@ -283,7 +283,7 @@ fn put_process_fact(
     )
 }
 
-/// Writes what to do, behind what is likely wrong.
+/// Writes the advice, after what is likely wrong.
 fn put_advice(advice: &[u8], alloc: Global, out: &mut Vec<u8>) -> Result<(), AllocError>
     ensures { OnOk result (StandsBefore out.old.items out.new.items) }
 {
@@ -294,7 +294,7 @@ fn put_advice(advice: &[u8], alloc: Global, out: &mut Vec<u8>) -> Result<(), All
     )
 }
 
-/// A step of a way, if the rehearsal came to it.
+/// Returns a step of a way, if the rehearsal reached it.
 fn about_step(direction: Direction, index: usize, way: &Way) -> About {
     if index < way.stations.len() {
         About::Step(direction, index)
@@ -303,7 +303,7 @@ fn about_step(direction: Direction, index: usize, way: &Way) -> About {
     }
 }
 
-/// A step of the way in a direction, if the rehearsal came to it.
+/// Returns a step of the way in a direction, if the rehearsal reached it.
 fn about_step_of(direction: Direction, index: usize, rehearsal: &Rehearsal) -> About {
     match (direction, &rehearsal.down) {
         (Direction::Up, _) => about_step(direction, index, &rehearsal.up),
@@ -312,7 +312,7 @@ fn about_step_of(direction: Direction, index: usize, rehearsal: &Rehearsal) -> A
     }
 }
 
-/// The last step of a way.
+/// Returns the last step of a way.
 fn last_of(direction: Direction, rehearsal: &Rehearsal) -> usize {
     match (direction, &rehearsal.down) {
         (Direction::Down, Some(down)) => down.stations.len().saturating_sub(1),
@@ -320,45 +320,25 @@ fn last_of(direction: Direction, rehearsal: &Rehearsal) -> usize {
     }
 }
 
-/// What a finding is about. Its index is that of an instruction of the way up.
-fn about_finding(finding: &Finding, rehearsal: &Rehearsal) -> About {
-    match finding {
-        Finding::LoadedAgain { index, .. }
-        | Finding::NoCodeChange { index, .. }
-        | Finding::NotUndone { index, .. }
-        | Finding::Starts { index, .. }
-        | Finding::Restarts { index, .. }
-        | Finding::Stops { index, .. } => about_step_of(Direction::Up, *index, rehearsal),
-        Finding::NotResumedOnOtp { way, index, .. }
-        | Finding::ResumesNobodyOnOtp { way, index, .. }
-        | Finding::ChangesNobodyOnOtp { way, index, .. }
-        | Finding::StartsNobodyOnOtp { way, index, .. } => about_step_of(*way, *index, rehearsal),
-        Finding::NotLoaded { .. } | Finding::NoWayDown => About::Other,
+/// Returns what something at this place is about: the step, if the rehearsal reached it.
+fn about_place(place: Option<(Direction, usize)>, rehearsal: &Rehearsal) -> About {
+    match place {
+        Some((way, number)) => about_step_of(way, number.saturating_sub(1), rehearsal),
+        None => About::Other,
     }
 }
 
-/// Returns what something is about that was seen at a moment: nothing before the way up is in the timeline.
-fn about_moment(when: Moment, rehearsal: &Rehearsal) -> About {
-    match when {
-        Moment::Before => About::Other,
-        Moment::At { way, index } => about_step_of(way, index, rehearsal),
-    }
-}
-
-/// Returns what an observation is about: one that is made at the end of a way its last step, and one of the whole upgrade or of
-/// a process that isn't shown neither.
+/// Returns what an observation is about. For one that is made at the end of a way, that is its last step. For one of the whole
+/// upgrade, or of a process that isn't shown, it is neither a process nor a step.
 fn about_observation(observation: &Observation, rehearsal: &Rehearsal, rows: &Rows<'_>) -> About {
     match observation {
-        Observation::SuspendsNobody { way, index, .. } | Observation::Kills { way, index, .. } =>
-            about_step_of(*way, *index, rehearsal),
-        Observation::Ends { when, .. }
-        | Observation::CallsDown { when }
-        | Observation::Unheard { when, .. } => about_moment(*when, rehearsal),
         Observation::Lingers { way, .. } => {
             about_step_of(*way, last_of(*way, rehearsal), rehearsal)
         }
-        Observation::NotRestored { pid } | Observation::Vanishes { pid } if rows.shows(*pid) =>
-            About::Process(*pid),
-        _ => About::Other,
+        Observation::NotRestored { pid }
+        | Observation::Vanishes { pid }
+        | Observation::Restless { pid }
+            if rows.shows(*pid) => { About::Process(*pid) }
+        _ => about_place(observation_place(observation), rehearsal),
     }
 }

@@ -1,23 +1,23 @@
-// What is told of findings.
-use crate::observations::way_word;
+// Findings in words.
+use crate::calls::{put_of_call, unanswered_advice};
+use crate::on_otp::{on_otp_advice, put_on_otp};
 use crate::writing::{put, put_atom, put_number};
 use erl_term::Atom;
-use low_instructions::Direction;
 use std::alloc::{AllocError, Global};
 use upgrade_review::Finding;
 
-/// Appends where a finding is, in the script up.
+/// Appends the index of a finding in the script up.
 fn put_index(index: usize, alloc: Global, out: &mut Vec<u8>) -> Result<(), AllocError> {
     put(b"up ", out)?;
     put_number((index as u64).saturating_add(1), alloc, out)?;
     put(b": ", out)
 }
 
-/// Appends what a finding is.
+/// Appends the text of a finding.
 ///
 /// # Errors
 ///
-/// `AllocError` where memory is refused.
+/// `AllocError` if an allocation fails.
 pub fn put_finding_fact(
     finding: &Finding,
     alloc: Global,
@@ -56,44 +56,19 @@ pub fn put_finding_fact(
         Finding::Starts { .. } | Finding::Restarts { .. } | Finding::Stops { .. } => {
             put_of_app(finding, alloc, out)
         }
-        Finding::NotResumedOnOtp { way, index, module } => {
-            put_on_otp(*way, *index, b"stay suspended for ever", module, alloc, out)
-        }
-        Finding::ResumesNobodyOnOtp { way, index, module } => {
-            put_on_otp(*way, *index, b"are not resumed", module, alloc, out)
-        }
-        Finding::ChangesNobodyOnOtp { way, index, module } => {
-            put_on_otp(
-                *way,
-                *index,
-                b"keep their state unchanged",
-                module,
-                alloc,
-                out,
-            )
-        }
-        Finding::StartsNobodyOnOtp { way, index, module } => {
-            put_on_otp(*way, *index, b"are not started", module, alloc, out)
-        }
+        Finding::NotResumedOnOtp { .. }
+        | Finding::ResumesNobodyOnOtp { .. }
+        | Finding::ChangesNobodyOnOtp { .. }
+        | Finding::StartsNobodyOnOtp { .. }
+        | Finding::NoPointOnOtp { .. }
+        | Finding::SecondPointOnOtp { .. }
+        | Finding::EarlyOnOtp { .. }
+        | Finding::SuspendedSupervisorOnOtp { .. } => put_on_otp(finding, alloc, out),
+        Finding::Unanswered { .. }
+        | Finding::AppliesNobody { .. }
+        | Finding::CallsOutside { .. }
+        | Finding::CallsInCallback { .. } => put_of_call(finding, alloc, out),
     }
-}
-
-/// Appends what becomes of the processes of a module on OTP.
-fn put_on_otp(
-    way: Direction,
-    index: usize,
-    what: &[u8],
-    module: &Atom,
-    alloc: Global,
-    out: &mut Vec<u8>,
-) -> Result<(), AllocError> {
-    put(way_word(way), out)?;
-    put(b" ", out)?;
-    put_number((index as u64).saturating_add(1), alloc, out)?;
-    put(b": on OTP the processes of ", out)?;
-    put_atom(module, alloc, out)?;
-    put(b" ", out)?;
-    put(what, out)
 }
 
 /// Appends that a module is not loaded.
@@ -137,7 +112,7 @@ fn put_of_app(finding: &Finding, alloc: Global, out: &mut Vec<u8>) -> Result<(),
     }
 }
 
-/// What to do about a finding.
+/// Returns the advice on a finding.
 pub fn finding_advice(finding: &Finding) -> &'static [u8] {
     match finding {
         Finding::NotLoaded { .. } => {
@@ -151,14 +126,25 @@ pub fn finding_advice(finding: &Finding) -> &'static [u8] {
         }
         Finding::Starts { .. } => b"right for an application that the upgrade adds",
         Finding::Restarts { .. } => {
-            b"upgrade its modules instead, where its processes are to keep their state"
+            b"upgrade its modules instead, if its processes are to keep their state"
         }
         Finding::Stops { .. } => b"right for an application that the upgrade takes away",
         Finding::NoWayDown => b"write the instructions for the way down",
         Finding::NotUndone { .. } => b"load its old code on the way down, or remove it",
-        Finding::NotResumedOnOtp { .. } => b"resume the module in the script",
-        Finding::ResumesNobodyOnOtp { .. } => b"resume them by the name that they are suspended by",
-        Finding::ChangesNobodyOnOtp { .. } => b"suspend them by the name that changes them",
-        Finding::StartsNobodyOnOtp { .. } => b"start them by the name that they are stopped by",
+        Finding::NotResumedOnOtp { .. }
+        | Finding::ResumesNobodyOnOtp { .. }
+        | Finding::ChangesNobodyOnOtp { .. }
+        | Finding::StartsNobodyOnOtp { .. }
+        | Finding::NoPointOnOtp { .. }
+        | Finding::SecondPointOnOtp { .. }
+        | Finding::EarlyOnOtp { .. }
+        | Finding::SuspendedSupervisorOnOtp { .. } => on_otp_advice(finding),
+        Finding::Unanswered { to, .. } => unanswered_advice(*to),
+        Finding::AppliesNobody { .. } =>
+            b"correct the function, or load code that exports it before",
+        Finding::CallsOutside { .. } => {
+            b"if it is a module of OTP, this can't be rehearsed here; else add its application to the release"
+        }
+        Finding::CallsInCallback { .. } => { b"this can't be rehearsed here; OTP makes the call" }
     }
 }

@@ -1,21 +1,27 @@
 // The kinds of what is likely wrong.
 ghost use Rattle.std.specs.Prelude.{◌≡◌};
-ghost use Rattle.rehearsal_report.specs.Verdicts.{call_down_kind, end_kind, kind_of_finding, kind_of_observation, unheard_kind};
+ghost use Rattle.rehearsal_report.specs.Verdicts.{call_down_kind, end_kind, kind_of_difference, kind_of_finding};
+ghost use Rattle.rehearsal_report.specs.Verdicts.{kind_of_observation, unheard_kind};
 
+use node_questions::Difference;
 use rehearsals::{Moment, Observation};
 use upgrade_review::Finding;
 
 /// A kind of what is likely wrong.
 #[derive(Clone, Copy, Debug, PartialEq, Eq)]
 pub enum Kind {
-    /// A process ends by its job before the way up.
+    /// A process ends because of its job before the way up.
     EndsBefore,
     /// A call gets an exit reason before the way up.
     CallsDownBefore,
-    /// A message is sent to a name that nobody has before the way up.
+    /// A message is sent to a name that no process has, before the way up.
     UnheardBefore,
-    /// Both ways come to their ends with the traffic, and not without.
+    /// Both ways reach their ends with the traffic, and not without.
     FailsWithoutTraffic,
+    /// The release that is installed doesn't boot.
+    BootFails,
+    /// An instruction applies a function that nobody answers.
+    AppliesNobody,
     /// Processes are suspended that OTP never resumes.
     NotResumedOnOtp,
     /// Processes are resumed that OTP leaves suspended.
@@ -24,25 +30,57 @@ pub enum Kind {
     ChangesNobodyOnOtp,
     /// Children are started that OTP leaves stopped.
     StartsNobodyOnOtp,
+    /// OTP fails at an instruction, for a supervisor is suspended.
+    SuspendedSupervisorOnOtp,
+    /// A temporary child is stopped, which OTP doesn't start again.
+    TemporaryOnOtp,
+    /// An instruction fails, and OTP ignores that.
+    PassedOverOnOtp,
+    /// A script has no point of no return or several, and OTP executes it.
+    PointsOnOtp,
+    /// An instruction is before the point of no return that belongs after it, and OTP executes it.
+    EarlyOnOtp,
+    /// Messages come in another order on OTP.
+    OrderOnOtp,
     /// A process has another state after both ways.
     NotRestored,
-    /// A process lives no more after both ways.
+    /// A process no longer lives after both ways.
     Vanishes,
-    /// A process is killed where code is purged.
+    /// A process is killed when code is purged.
     Kills,
-    /// A process ends by its job.
+    /// A process ends because of its job.
     Ends,
     /// A call gets an exit reason.
     CallsDown,
-    /// A message is sent to a name that nobody has.
+    /// A message is sent to a name that no process has.
     Unheard,
-    /// A process uses old code when a script has ended.
+    /// A module calls a function that nobody answers.
+    Unanswered,
+    /// A module calls a function of a module that neither release has.
+    CallsOutside,
+    /// A function that serves a process calls `gen_server:call`.
+    CallsInCallback,
+    /// A process has a state of another shape than after a boot.
+    OtherState,
+    /// A child runs, or is there, only after the upgrade or only after a boot.
+    OtherChildren,
+    /// A child has another specification than after a boot.
+    OtherSpecification,
+    /// A process has another name than after a boot.
+    OtherName,
+    /// An application runs only after the upgrade or only after a boot.
+    OtherApplications,
+    /// A module has other code than after a boot, or has code only after one of the two.
+    OtherCode,
+    /// A process is never at rest.
+    Restless,
+    /// A process uses old code after a script has ended.
     Lingers,
-    /// Nobody is suspended for a module.
+    /// No process is suspended by a module.
     SuspendsNobody,
     /// A module that is to change states exports no `code_change/3`.
     NoCodeChange,
-    /// A module that differs is not loaded.
+    /// A module whose code differs is not loaded.
     NotLoaded,
     /// A module that is loaded is neither loaded nor removed on the way down.
     NotUndone,
@@ -54,26 +92,44 @@ pub enum Kind {
     Stops,
     /// An application is started.
     Starts,
-    /// A module is loaded that both releases have alike.
+    /// A module is loaded, and both releases have the same code of it.
     LoadedAgain,
 }
 
-/// All kinds, in the order in which they are printed: what weighs most comes first.
+/// All kinds, in the order in which they are printed: the most important first.
 pub const KINDS: &[Kind] = &[
     Kind::EndsBefore,
     Kind::CallsDownBefore,
     Kind::UnheardBefore,
     Kind::FailsWithoutTraffic,
+    Kind::BootFails,
+    Kind::AppliesNobody,
     Kind::NotResumedOnOtp,
     Kind::ResumesNobodyOnOtp,
     Kind::ChangesNobodyOnOtp,
     Kind::StartsNobodyOnOtp,
+    Kind::SuspendedSupervisorOnOtp,
+    Kind::TemporaryOnOtp,
+    Kind::PassedOverOnOtp,
+    Kind::PointsOnOtp,
+    Kind::EarlyOnOtp,
+    Kind::OrderOnOtp,
     Kind::NotRestored,
     Kind::Vanishes,
     Kind::Kills,
     Kind::Ends,
     Kind::CallsDown,
     Kind::Unheard,
+    Kind::Unanswered,
+    Kind::CallsOutside,
+    Kind::CallsInCallback,
+    Kind::OtherState,
+    Kind::OtherChildren,
+    Kind::OtherSpecification,
+    Kind::OtherName,
+    Kind::OtherApplications,
+    Kind::OtherCode,
+    Kind::Restless,
     Kind::Lingers,
     Kind::SuspendsNobody,
     Kind::NoCodeChange,
@@ -94,16 +150,34 @@ impl Kind {
             Kind::CallsDownBefore => "calls_down_before",
             Kind::UnheardBefore => "unheard_before",
             Kind::FailsWithoutTraffic => "fails_without_traffic",
+            Kind::BootFails => "boot_fails",
+            Kind::AppliesNobody => "applies_nobody",
             Kind::NotResumedOnOtp => "not_resumed_on_otp",
             Kind::ResumesNobodyOnOtp => "resumes_nobody_on_otp",
             Kind::ChangesNobodyOnOtp => "changes_nobody_on_otp",
             Kind::StartsNobodyOnOtp => "starts_nobody_on_otp",
+            Kind::SuspendedSupervisorOnOtp => "suspended_supervisor_on_otp",
+            Kind::TemporaryOnOtp => "temporary_on_otp",
+            Kind::PassedOverOnOtp => "passed_over_on_otp",
+            Kind::PointsOnOtp => "points_on_otp",
+            Kind::EarlyOnOtp => "early_on_otp",
+            Kind::OrderOnOtp => "order_on_otp",
             Kind::NotRestored => "not_restored",
             Kind::Vanishes => "vanishes",
             Kind::Kills => "kills",
             Kind::Ends => "ends",
             Kind::CallsDown => "calls_down",
             Kind::Unheard => "unheard",
+            Kind::Unanswered => "unanswered",
+            Kind::CallsOutside => "calls_outside",
+            Kind::CallsInCallback => "calls_in_callback",
+            Kind::OtherState => "other_state",
+            Kind::OtherChildren => "other_children",
+            Kind::OtherSpecification => "other_specification",
+            Kind::OtherName => "other_name",
+            Kind::OtherApplications => "other_applications",
+            Kind::OtherCode => "other_code",
+            Kind::Restless => "restless",
             Kind::Lingers => "lingers",
             Kind::SuspendsNobody => "suspends_nobody",
             Kind::NoCodeChange => "no_code_change",
@@ -117,7 +191,7 @@ impl Kind {
         }
     }
 
-    /// Returns the kind of a word, if it is one's.
+    /// Returns the kind that a word names, if it names one.
     pub fn of_word(word: &str) -> Option<Kind> {
         KINDS.iter().find(|kind| kind.word() == word).copied()
     }
@@ -140,10 +214,17 @@ pub fn kind_of_finding(finding: &Finding) -> Kind
         Finding::ResumesNobodyOnOtp { .. } => Kind::ResumesNobodyOnOtp,
         Finding::ChangesNobodyOnOtp { .. } => Kind::ChangesNobodyOnOtp,
         Finding::StartsNobodyOnOtp { .. } => Kind::StartsNobodyOnOtp,
+        Finding::NoPointOnOtp { .. } | Finding::SecondPointOnOtp { .. } => Kind::PointsOnOtp,
+        Finding::EarlyOnOtp { .. } => Kind::EarlyOnOtp,
+        Finding::SuspendedSupervisorOnOtp { .. } => Kind::SuspendedSupervisorOnOtp,
+        Finding::Unanswered { .. } => Kind::Unanswered,
+        Finding::AppliesNobody { .. } => Kind::AppliesNobody,
+        Finding::CallsOutside { .. } => Kind::CallsOutside,
+        Finding::CallsInCallback { .. } => Kind::CallsInCallback,
     }
 }
 
-/// Returns the kind of what was seen.
+/// Returns the kind of an observation.
 pub fn kind_of_observation(observation: &Observation) -> Kind
     ensures { result ≡ kind_of_observation observation.now }
 {
@@ -156,11 +237,35 @@ pub fn kind_of_observation(observation: &Observation) -> Kind
         Observation::Lingers { .. } => Kind::Lingers,
         Observation::NotRestored { .. } => Kind::NotRestored,
         Observation::Vanishes { .. } => Kind::Vanishes,
+        Observation::Restless { .. } => Kind::Restless,
+        Observation::TemporaryOnOtp { .. } => Kind::TemporaryOnOtp,
+        Observation::PassedOverOnOtp { .. } => Kind::PassedOverOnOtp,
+        Observation::OrderOnOtp { .. } => Kind::OrderOnOtp,
         Observation::FailsWithoutTraffic => Kind::FailsWithoutTraffic,
+        Observation::BootFails => Kind::BootFails,
+        Observation::Differs { difference } => kind_of_difference(difference),
     }
 }
 
-/// Returns the kind of the end of a process by its job.
+/// Returns the kind of a difference from a node on which the release that is installed has booted.
+fn kind_of_difference(difference: &Difference) -> Kind
+    ensures { result ≡ kind_of_difference difference.now }
+{
+    match difference {
+        Difference::ApplicationMissing { .. } | Difference::ApplicationStays { .. } => {
+            Kind::OtherApplications
+        }
+        Difference::ChildMissing { .. } | Difference::ChildStays { .. } => Kind::OtherChildren,
+        Difference::OtherSpecification { .. } => Kind::OtherSpecification,
+        Difference::OtherName { .. } => Kind::OtherName,
+        Difference::OtherState { .. } => Kind::OtherState,
+        Difference::CodeMissing { .. }
+        | Difference::OtherCode { .. }
+        | Difference::CodeStays { .. } => Kind::OtherCode,
+    }
+}
+
+/// Returns the kind of the end of a process because of its job.
 fn end_kind(when: Moment) -> Kind
     ensures { result ≡ end_kind when }
 {
@@ -180,7 +285,7 @@ fn call_down_kind(when: Moment) -> Kind
     }
 }
 
-/// Returns the kind of a name that nobody has.
+/// Returns the kind of a message to a name that no process has.
 fn unheard_kind(when: Moment) -> Kind
     ensures { result ≡ unheard_kind when }
 {

@@ -1,9 +1,9 @@
-// What a failure of an instruction would leave.
+// The consequences of a failure of an instruction.
 use crate::writing::{put, put_number};
 use node_views::NodeView;
 use std::alloc::{AllocError, Global};
 
-/// How many processes live.
+/// Returns the number of processes that live.
 fn living(view: &NodeView) -> u64 {
     let mut count: u64 = 0;
     for process in view.processes.as_slice() {
@@ -14,7 +14,7 @@ fn living(view: &NodeView) -> u64 {
     count
 }
 
-/// How many messages wait.
+/// Returns the number of messages that wait.
 fn waiting(view: &NodeView) -> u64 {
     let mut count: u64 = 0;
     for process in view.processes.as_slice() {
@@ -25,8 +25,8 @@ fn waiting(view: &NodeView) -> u64 {
     count
 }
 
-/// Appends what OTP's release handler leaves if an instruction fails (release_handler(3)). Before the point of no return it gives
-/// the script up; at it and after it, it restarts the node, and what processes hold is lost.
+/// Appends what OTP's release handler does if an instruction fails (release_handler(3)). Before the point of no return it gives
+/// the script up. At the point and after it, it restarts the node, and what processes hold is lost.
 pub(crate) fn put_left(
     restarts: bool,
     before: &NodeView,
@@ -34,9 +34,12 @@ pub(crate) fn put_left(
     out: &mut Vec<u8>,
 ) -> Result<(), AllocError> {
     if !restarts {
-        return put(b"a failure here: OTP gives the script up", out);
+        return put(b"a failure from here on: OTP gives the script up", out);
     }
-    put(b"a failure here: OTP restarts the node; lost are ", out)?;
+    put(
+        b"a failure from here on: OTP restarts the node; lost are ",
+        out,
+    )?;
     put_number(living(before), alloc, out)?;
     put(b" states and ", out)?;
     put_number(waiting(before), alloc, out)?;

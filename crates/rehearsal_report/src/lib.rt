@@ -1,25 +1,29 @@
-//! A rehearsal of an upgrade, told as a page of text.
+//! Writes a rehearsal of an upgrade as a page of text.
 //!
-//! [`write_report`] writes the verdict in a line, what is likely wrong, the weightiest first, the scripts, and what was seen of
-//! each instruction. Each thing that is likely wrong is of a [`Kind`], and the caller allows some kinds: by what was found of
-//! the others [`verdict_of`] judges the upgrade.
-//! Terms are written as Erlang writes them, and characters that are hidden on a terminal are escaped, so that nothing in a
-//! file can begin a line of its own or turn the direction of one.
-//! What is told of a step, a process or a finding is public, so that another page of the same rehearsal tells it in the same
+//! [`write_report`] writes the verdict in a line, what is likely wrong (the most important first), the scripts, and what was
+//! seen of each instruction. Each thing that is likely wrong is of a [`Kind`], and the caller allows some kinds. [`verdict_of`]
+//! judges the upgrade by the findings of the other kinds. Terms are written as Erlang writes them, and characters that are
+//! hidden on a terminal are escaped, so that nothing in a file can begin a line of its own or turn the direction of one. The
+//! functions that write a step, a process or a finding are public, so that another page of the same rehearsal has the same
 //! words.
 //!
 //! # What is proved
 //!
-//! [`verdict_of`] says that an upgrade fails just if it would not go up and down, with the traffic and without; and of one that
-//! would go, that it has findings just if something was found of a kind that isn't allowed (`IsVerdict`). Of which kind each
-//! thing is, [`kind_of_finding`] and [`kind_of_observation`] return. No contract says which texts are written.
+//! [`verdict_of`] returns that an upgrade fails exactly if it would not go up and down, with the traffic and without. For one
+//! that would go, it returns that there are findings exactly if something was found of a kind that isn't allowed (`IsVerdict`).
+//! [`kind_of_finding`] and [`kind_of_observation`] return the kind of each thing. No contract says which texts are written.
 #![tactic(auto)]
 
+mod alike;
+mod calls;
+mod differences;
 mod findings;
 mod kinds;
 mod leaving;
 mod observations;
+mod on_otp;
 mod outcomes;
+mod places;
 mod reasons;
 mod report;
 mod scripts;
@@ -33,12 +37,13 @@ pub use findings::{finding_advice, put_finding_fact};
 pub use kinds::{KINDS, Kind, kind_of_finding, kind_of_observation};
 pub use observations::{observation_advice, put_observation_fact, way_word};
 pub use outcomes::{put_install_refusal, put_outcome};
+pub use places::{finding_place, observation_place};
 pub use report::{Report, put_head, write_report};
-pub use scripts::put_instruction;
+pub use scripts::{put_bare_instruction, put_instruction};
 pub use sentences::{NOT_AS_BEFORE, finding_count, put_failure, put_verdict};
 pub use steps::{
     doing_word, put_begin, put_jobs_run, put_module_change, put_process_change, put_reply,
-    put_standing, undone_words,
+    put_standing, served_between, undone_words,
 };
 pub use verdicts::{Verdict, is_allowed, verdict_of};
 pub use writing::{Extent, put_process};

@@ -1,4 +1,6 @@
-// What is told of what a rehearsal has shown.
+// Observations in words.
+use crate::differences::{difference_advice, put_boot_fails, put_difference};
+use crate::on_otp::{put_seen_on_otp, seen_on_otp_advice};
 use crate::reasons::{Cause, cause_of};
 use crate::writing::{Extent, put, put_atom, put_number, put_process, put_shown};
 use erl_term::{Atom, Term};
@@ -15,7 +17,7 @@ pub fn way_word(way: Direction) -> &'static [u8] {
     }
 }
 
-/// Appends where something was seen.
+/// Appends the place at which something was seen.
 fn put_index(
     way: Direction,
     index: usize,
@@ -28,7 +30,7 @@ fn put_index(
     put(b": ", out)
 }
 
-/// Appends when something was seen.
+/// Appends the moment at which something was seen.
 fn put_when(when: Moment, alloc: Global, out: &mut Vec<u8>) -> Result<(), AllocError> {
     match when {
         Moment::Before => put(b"before the upgrade: ", out),
@@ -36,7 +38,7 @@ fn put_when(when: Moment, alloc: Global, out: &mut Vec<u8>) -> Result<(), AllocE
     }
 }
 
-/// Returns a way of a rehearsal, if it was gone.
+/// Returns a way of a rehearsal, if there is one.
 fn way_of<'a>(direction: Direction, rehearsal: &'a Rehearsal) -> Option<&'a Way> {
     match (direction, &rehearsal.down) {
         (Direction::Up, _) => Some(&rehearsal.up),
@@ -45,8 +47,8 @@ fn way_of<'a>(direction: Direction, rehearsal: &'a Rehearsal) -> Option<&'a Way>
     }
 }
 
-/// Returns the node by which a process is named that something was seen of: the one before the way up if it lived then, else the
-/// one before the instruction, or that right after it.
+/// Returns the node whose view names a process that something was seen of. That is the node before the way up if the process
+/// lived then, else the one before the instruction, or the one right after it.
 fn home_of<'a>(pid: u64, when: Moment, rehearsal: &'a Rehearsal) -> &'a NodeView {
     let before = &rehearsal.before;
     match when {
@@ -60,7 +62,7 @@ fn home_of<'a>(pid: u64, when: Moment, rehearsal: &'a Rehearsal) -> &'a NodeView
     }
 }
 
-/// Returns the node before an instruction if a process lived then, else that right after it.
+/// Returns the node before an instruction if a process lived then, else the one right after it.
 fn home_at<'a>(pid: u64, index: usize, way: &'a Way) -> &'a NodeView {
     let before = way.before(index);
     match way.stations.get(index) {
@@ -75,12 +77,47 @@ fn end_of(way: Direction, rehearsal: &Rehearsal) -> Moment {
     Moment::At { way, index }
 }
 
-/// Appends what was seen. A process has the name that it had before, if it lived then.
+/// Appends the text of an observation. A process has the name that it had before, if it lived then.
 ///
 /// # Errors
 ///
-/// `AllocError` if memory is refused.
+/// `AllocError` if an allocation fails.
 pub fn put_observation_fact(
+    observation: &Observation,
+    rehearsal: &Rehearsal,
+    alloc: Global,
+    out: &mut Vec<u8>,
+) -> Result<(), AllocError> {
+    match observation {
+        Observation::SuspendsNobody { .. }
+        | Observation::Kills { .. }
+        | Observation::Lingers { .. } => put_of_code(observation, rehearsal, alloc, out),
+        Observation::Ends { .. } | Observation::CallsDown { .. } | Observation::Unheard { .. } => {
+            put_served(observation, rehearsal, alloc, out)
+        }
+        Observation::NotRestored { .. }
+        | Observation::Vanishes { .. }
+        | Observation::Restless { .. }
+        | Observation::FailsWithoutTraffic => put_returned(observation, rehearsal, alloc, out),
+        Observation::TemporaryOnOtp { way, index, pid } => {
+            let home = home_of(*pid, moment(*way, *index), rehearsal);
+            put_seen_on_otp(observation, home, alloc, out)
+        }
+        Observation::PassedOverOnOtp { .. } | Observation::OrderOnOtp { .. } => {
+            put_seen_on_otp(observation, &rehearsal.before, alloc, out)
+        }
+        Observation::BootFails => put_boot_fails(&rehearsal.boot, alloc, out),
+        Observation::Differs { difference } => put_difference(difference, alloc, out),
+    }
+}
+
+/// Returns the moment of an instruction.
+fn moment(way: Direction, index: usize) -> Moment {
+    Moment::At { way, index }
+}
+
+/// Appends an observation about processes and the code of a module.
+fn put_of_code(
     observation: &Observation,
     rehearsal: &Rehearsal,
     alloc: Global,
@@ -92,12 +129,9 @@ pub fn put_observation_fact(
             put_suspends_nobody(module, alloc, out)
         }
         Observation::Kills { way, index, pid } => {
-            let when = Moment::At {
-                way: *way,
-                index: *index,
-            };
             put_index(*way, *index, alloc, out)?;
-            put_process(*pid, home_of(*pid, when, rehearsal), alloc, out)?;
+            let home = home_of(*pid, moment(*way, *index), rehearsal);
+            put_process(*pid, home, alloc, out)?;
             put(b" still uses the code that is purged, and is killed", out)
         }
         Observation::Lingers { way, module, pid } => {
@@ -107,16 +141,11 @@ pub fn put_observation_fact(
             put_process(*pid, home, alloc, out)?;
             put_lingers(module, alloc, out)
         }
-        Observation::Ends { .. } | Observation::CallsDown { .. } | Observation::Unheard { .. } => {
-            put_served(observation, rehearsal, alloc, out)
-        }
-        Observation::NotRestored { .. }
-        | Observation::Vanishes { .. }
-        | Observation::FailsWithoutTraffic => put_returned(observation, rehearsal, alloc, out),
+        _ => Ok(()),
     }
 }
 
-/// Appends that nobody is suspended for a module.
+/// Appends that no process is suspended by a module.
 fn put_suspends_nobody(module: &Atom, alloc: Global, out: &mut Vec<u8>) -> Result<(), AllocError> {
     put(b"nobody is suspended for ", out)?;
     put_atom(module, alloc, out)?;
@@ -130,7 +159,7 @@ fn put_lingers(module: &Atom, alloc: Global, out: &mut Vec<u8>) -> Result<(), Al
     put(b" when the script has ended", out)
 }
 
-/// Appends what came of a message.
+/// Appends what a message caused.
 fn put_served(
     observation: &Observation,
     rehearsal: &Rehearsal,
@@ -159,7 +188,7 @@ fn put_served(
     }
 }
 
-/// Appends that a process ends, with which reason, and at which message. One that isn't in the view is named by its module.
+/// Appends that a process ends, its reason, and the message. A process that isn't in the view is named by its module.
 fn put_exit(
     exit: &Exit,
     home: &NodeView,
@@ -177,7 +206,7 @@ fn put_exit(
     put_shown(&exit.message, Extent::Short, alloc, out)
 }
 
-/// Appends what was seen after both ways.
+/// Appends an observation about a process as a whole, or about both ways.
 fn put_returned(
     observation: &Observation,
     rehearsal: &Rehearsal,
@@ -199,6 +228,13 @@ fn put_returned(
                 out,
             )
         }
+        Observation::Restless { pid } => {
+            put_process(*pid, &rehearsal.before, alloc, out)?;
+            put(
+                b" is never at rest; after a thousand messages the script went on",
+                out,
+            )
+        }
         Observation::FailsWithoutTraffic => put(
             b"without the traffic it doesn't go up and down",
             out,
@@ -207,7 +243,7 @@ fn put_returned(
     }
 }
 
-/// Returns what to do about what was seen.
+/// Returns the advice on an observation.
 pub fn observation_advice(observation: &Observation) -> &'static [u8] {
     match observation {
         Observation::SuspendsNobody { .. } => {
@@ -226,13 +262,22 @@ pub fn observation_advice(observation: &Observation) -> &'static [u8] {
         Observation::Vanishes { .. } => {
             b"change its state by code_change/3 instead of a stop and a start, or see that it may be lost"
         }
+        Observation::Restless { .. } => {
+            b"let it wait for something, or see what its state depends on"
+        }
+        Observation::TemporaryOnOtp { .. }
+        | Observation::PassedOverOnOtp { .. }
+        | Observation::OrderOnOtp { .. } => seen_on_otp_advice(observation),
         Observation::FailsWithoutTraffic => {
             b"rehearse it without traffic, and see which instruction fails"
         }
+        Observation::BootFails =>
+            b"boot it alone, and see why: no restart would succeed after the upgrade",
+        Observation::Differs { difference } => difference_advice(difference),
     }
 }
 
-/// Returns what to do about a process that ends for a reason.
+/// Returns the advice on a process that ends for a reason.
 fn end_advice(when: Moment, reason: &Term) -> &'static [u8] {
     match (when, cause_of(reason)) {
         (Moment::At { .. }, Cause::NotThere) => {
@@ -258,7 +303,7 @@ without the process"
     }
 }
 
-/// Returns what to do about a call that gets an exit reason.
+/// Returns the advice on a call that gets an exit reason.
 fn call_down_advice(when: Moment) -> &'static [u8] {
     match when {
         Moment::Before => b"correct the traffic or the release that is left",
@@ -268,7 +313,7 @@ fn call_down_advice(when: Moment) -> &'static [u8] {
     }
 }
 
-/// Returns what to do about a name that nobody has.
+/// Returns the advice on a message to a name that no process has.
 fn unheard_advice(when: Moment) -> &'static [u8] {
     match when {
         Moment::Before => b"correct the name in the traffic",

@@ -1,15 +1,15 @@
-// What instructions came to, and why an install is refused.
+// The outcomes of instructions, and the reasons why an install is refused.
 use crate::writing::{Extent, put, put_pid, put_shown};
 use install_checks::InstallError;
 use node_types::Refusal;
 use rehearsals::Outcome;
 use std::alloc::{AllocError, Global};
 
-/// Appends what an instruction came to.
+/// Appends the outcome of an instruction.
 ///
 /// # Errors
 ///
-/// `AllocError` where memory is refused.
+/// `AllocError` if an allocation fails.
 pub fn put_outcome(
     outcome: &Outcome,
     extent: Extent,
@@ -38,7 +38,7 @@ pub fn put_outcome(
 ///
 /// # Errors
 ///
-/// `AllocError` where memory is refused.
+/// `AllocError` if an allocation fails.
 pub fn put_install_refusal(
     why: &Refusal,
     alloc: Global,
@@ -48,7 +48,7 @@ pub fn put_install_refusal(
     put_refusal(why, alloc, out)
 }
 
-/// Appends why the last instruction of a way that fails does so, or what it came to if it doesn't fail.
+/// Appends why the last instruction of a way fails, or its outcome if it doesn't fail.
 pub(crate) fn put_failure_reason(
     outcome: &Outcome,
     extent: Extent,

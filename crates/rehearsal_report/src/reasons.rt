@@ -1,12 +1,12 @@
-// What an exit reason is about.
+// The causes of exits.
 use erl_term::{Term, first};
 
-/// What the cause of an exit is.
+/// The cause of an exit.
 #[derive(Clone, Copy)]
 pub(crate) enum Cause {
-    /// A function was called that isn't there.
+    /// A function was called that doesn't exist.
     NotThere,
-    /// The code does what nobody can rehearse here.
+    /// The code does what can't be rehearsed here.
     NotInProfile,
     /// Another one.
     Other,
@@ -42,7 +42,7 @@ fn is_tagged(term: &Term, word: &str) -> bool {
     }
 }
 
-/// Returns whether a term is this atom, or a tuple or a list that has it, as an element or in one, two deep at most.
+/// Returns whether a term is this atom, or a tuple or a list that has it as an element or within an element, two deep at most.
 fn has_deeply(term: &Term, word: &str) -> bool {
     has_word(term, word) || elements(term).iter().any(|part| has_word(part, word))
 }

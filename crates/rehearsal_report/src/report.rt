@@ -6,11 +6,11 @@ use crate::steps::put_way;
 use crate::writing::put;
 use crate::wrong::put_wrong;
 use low_instructions::Low;
-use rehearsals::{Observation, Rehearsal};
+use rehearsals::{Observation, Rehearsal, is_down};
 use std::alloc::{AllocError, Global};
 use upgrade_review::Finding;
 
-/// What a report is made of.
+/// The parts of a report.
 #[derive(Drop)]
 pub struct Report<'a> {
     /// The version of the release that is left.
@@ -23,24 +23,24 @@ pub struct Report<'a> {
     pub up: &'a [Low],
     /// The script that leads down, if there is one.
     pub down: Option<&'a [Low]>,
-    /// What is likely wrong, seen from the releases and the script up.
+    /// What is likely wrong, judged by the releases and the script up.
     pub findings: &'a [Finding],
-    /// What is likely wrong with the way down, seen from both scripts.
+    /// What is likely wrong with the way down, judged by both scripts.
     pub amiss: &'a [Finding],
     /// What the rehearsal has shown that is likely wrong.
     pub observations: &'a [Observation],
-    /// The kinds of what is likely wrong that are allowed: they are printed, and don't count.
+    /// The allowed kinds of what is likely wrong: they are printed, and don't count.
     pub allowed: &'a [Kind],
     /// The rehearsal.
     pub rehearsal: &'a Rehearsal,
 }
 
-/// Writes a report: what is rehearsed, the verdict and what is likely wrong; and unless `is_quiet` the scripts, and what was seen
-/// of each instruction.
+/// Writes a report: what is rehearsed, the verdict and what is likely wrong. Unless `is_quiet`, it also writes the scripts that
+/// were not executed to their ends, and what was seen of each instruction.
 ///
 /// # Errors
 ///
-/// `AllocError` if memory is refused.
+/// `AllocError` if an allocation fails.
 pub fn write_report(
     alloc: Global,
     report: &Report<'_>,
@@ -62,7 +62,7 @@ pub fn write_report(
 ///
 /// # Errors
 ///
-/// `AllocError` if memory is refused.
+/// `AllocError` if an allocation fails.
 pub fn put_head(report: &Report<'_>, out: &mut Vec<u8>) -> Result<(), AllocError> {
     put(b"From ", out)?;
     put(report.from.as_bytes(), out)?;
@@ -75,15 +75,18 @@ pub fn put_head(report: &Report<'_>, out: &mut Vec<u8>) -> Result<(), AllocError
     }
 }
 
-/// Writes both scripts.
+/// Writes the scripts whose end the rehearsal has not reached; the others are in what was seen of each instruction.
 fn put_scripts(report: &Report<'_>, alloc: Global, out: &mut Vec<u8>) -> Result<(), AllocError> {
-    put(b"\nThe script up:\n", out)?;
-    put_script(report.up, alloc, out)?;
+    if !report.rehearsal.up.is_finished() {
+        put(b"\nThe script up:\n", out)?;
+        put_script(report.up, alloc, out)?;
+    }
     match report.down {
-        Some(script) => {
+        Some(script) if !is_down(&report.rehearsal.down) => {
             put(b"\nThe script down:\n", out)?;
             put_script(script, alloc, out)
         }
+        Some(_) => Ok(()),
         None => put(b"\nThere is no script down.\n", out),
     }
 }

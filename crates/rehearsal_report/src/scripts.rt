@@ -1,4 +1,4 @@
-// Scripts, as numbered lists.
+// Scripts as numbered lists.
 use crate::writing::{put, put_item_number, put_term};
 use low_instructions::{Low, low_term};
 use std::alloc::{AllocError, Global};
@@ -17,11 +17,11 @@ pub(crate) fn put_script(
     Ok(())
 }
 
-/// Appends an instruction, and of the point of no return what it means.
+/// Appends an instruction, with an explanation of the point of no return.
 ///
 /// # Errors
 ///
-/// `AllocError` if memory is refused.
+/// `AllocError` if an allocation fails.
 pub fn put_instruction(
     instruction: &Low,
     alloc: Global,
@@ -35,7 +35,11 @@ pub fn put_instruction(
 }
 
 /// Appends an instruction alone.
-pub(crate) fn put_bare_instruction(
+///
+/// # Errors
+///
+/// `AllocError` if an allocation fails.
+pub fn put_bare_instruction(
     instruction: &Low,
     alloc: Global,
     out: &mut Vec<u8>,

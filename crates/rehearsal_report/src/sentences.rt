@@ -11,19 +11,19 @@ use rehearsals::{Rehearsal, Station, Way, is_down};
 use std::alloc::{AllocError, Global};
 use upgrade_review::Finding;
 
-/// What is printed if all was undone, and the node was not as before.
+/// The text that is printed if all was undone and the node was not as before.
 pub const NOT_AS_BEFORE: &[u8] = b"All undone, the node is NOT as before.";
 
-/// How many things were found.
+/// The numbers of findings.
 #[derive(Clone, Copy)]
 struct Counts {
-    /// Those of kinds that aren't allowed.
+    /// The number of those of kinds that aren't allowed.
     counted: u64,
-    /// Those of kinds that are allowed.
+    /// The number of those of kinds that are allowed.
     allowed: u64,
 }
 
-/// Returns how many things were found.
+/// Returns the numbers of findings.
 fn counts_of(report: &Report<'_>) -> Counts {
     let all = finding_count(report);
     let counted = counted_of(report);
@@ -33,14 +33,14 @@ fn counts_of(report: &Report<'_>) -> Counts {
     }
 }
 
-/// Returns how many things were found, of whichever kinds.
+/// Returns the number of findings of all kinds.
 pub fn finding_count(report: &Report<'_>) -> u64 {
     (report.findings.len() as u64)
         .saturating_add(report.amiss.len() as u64)
         .saturating_add(report.observations.len() as u64)
 }
 
-/// Returns how many things were found of kinds that aren't allowed.
+/// Returns the number of findings of kinds that aren't allowed.
 fn counted_of(report: &Report<'_>) -> u64 {
     let observations = report.observations.iter();
     let seen = observations
@@ -51,7 +51,7 @@ fn counted_of(report: &Report<'_>) -> u64 {
         .saturating_add(seen as u64)
 }
 
-/// Returns how many of the findings are of kinds that aren't allowed.
+/// Returns how many of these findings are of kinds that aren't allowed.
 fn counted_in(findings: &[Finding], allowed: &[Kind]) -> u64 {
     findings
         .iter()
@@ -63,7 +63,7 @@ fn counted_in(findings: &[Finding], allowed: &[Kind]) -> u64 {
 ///
 /// # Errors
 ///
-/// `AllocError` if memory is refused.
+/// `AllocError` if an allocation fails.
 pub fn put_verdict(
     report: &Report<'_>,
     alloc: Global,
@@ -75,7 +75,7 @@ pub fn put_verdict(
     }
 }
 
-/// Appends that an upgrade would go, and how many things were found.
+/// Appends that an upgrade would go, and the numbers of findings.
 fn put_going(counts: Counts, alloc: Global, out: &mut Vec<u8>) -> Result<(), AllocError> {
     put(b"It would go up and down", out)?;
     match counts {
@@ -107,7 +107,7 @@ fn put_going(counts: Counts, alloc: Global, out: &mut Vec<u8>) -> Result<(), All
     }
 }
 
-/// Appends how many findings there are.
+/// Appends the number of findings.
 fn put_findings_word(count: u64, alloc: Global, out: &mut Vec<u8>) -> Result<(), AllocError> {
     put_number(count, alloc, out)?;
     put(
@@ -120,7 +120,7 @@ fn put_findings_word(count: u64, alloc: Global, out: &mut Vec<u8>) -> Result<(),
     )
 }
 
-/// Appends how many findings are allowed beside, if any are.
+/// Appends how many more findings are allowed, if any are.
 fn put_more_allowed(count: u64, alloc: Global, out: &mut Vec<u8>) -> Result<(), AllocError> {
     if count == 0 {
         return Ok(());
@@ -167,7 +167,7 @@ fn failing_way<'a>(rehearsal: &'a Rehearsal) -> Option<(Direction, &'a Way)> {
     }
 }
 
-/// Appends the instruction at which a way fails, which is the last that it has come to; or that its install is refused.
+/// Appends the instruction at which a way fails, which is the last that it has reached; or that its install is refused.
 fn put_failing_place(
     direction: Direction,
     way: &Way,
@@ -181,7 +181,7 @@ fn put_failing_place(
     put(b" fails.", out)
 }
 
-/// Appends the place of the last instruction that a way has come to.
+/// Appends the place of the last instruction that a way has reached.
 fn put_place(
     direction: Direction,
     way: &Way,
@@ -198,7 +198,7 @@ fn put_place(
 ///
 /// # Errors
 ///
-/// `AllocError` if memory is refused.
+/// `AllocError` if an allocation fails.
 pub fn put_failure(
     rehearsal: &Rehearsal,
     extent: Extent,
@@ -230,7 +230,7 @@ fn put_way_failure(
     }
 }
 
-/// Appends an instruction, and why it fails.
+/// Appends an instruction and the reason why it fails.
 fn put_station_failure(
     station: &Station,
     extent: Extent,
@@ -245,8 +245,8 @@ fn put_station_failure(
     put_failure_reason(&station.outcome, extent, alloc, out)
 }
 
-/// Writes the verdict in a line, what fails in one if something does, and in one that the node was not as before once all was
-/// undone, if it was not.
+/// Writes the verdict in a line, what fails in a line if something fails, and in another that the node was not as before after
+/// all was undone, if it was not.
 pub(crate) fn write_verdict(
     report: &Report<'_>,
     alloc: Global,

@@ -1,10 +1,11 @@
-// What was seen of each instruction.
+// The records of instructions, in words.
+use crate::alike::Groups;
 use crate::leaving::put_left;
 use crate::outcomes::{put_install_refusal, put_outcome};
 use crate::scripts::put_instruction;
 use crate::writing::{
-    Extent, INDENT, put, put_atom, put_cut, put_item_number, put_number, put_pid, put_process,
-    put_shown, put_whole,
+    Extent, INDENT, put, put_atom, put_cut, put_item_number, put_number, put_parted, put_pid,
+    put_process, put_shown, put_whole,
 };
 use erl_semantics::Place;
 use erl_term::{Atom, print_atom, print_list};
@@ -24,62 +25,79 @@ pub(crate) fn put_way(way: &Way, alloc: Global, out: &mut Vec<u8>) -> Result<(),
         put(b"\n", out)?;
     }
     let mut restarts = false;
+    let mut told = Vec::new(alloc);
     for (place, station) in way.stations.iter().enumerate() {
         restarts = restarts || is_point(station);
-        put_station(place, way, station, restarts, alloc, out)?;
+        put_station(place, way, station, alloc, out)?;
+        told = put_trial(station, restarts, way.before(place), told, alloc, out)?;
     }
     Ok(())
 }
 
-/// Whether an instruction is the point of no return.
+/// Returns whether an instruction is the point of no return.
 fn is_point(station: &Station) -> bool {
     matches!(station.instruction, Some(Low::PointOfNoReturn))
 }
 
-/// Writes what was seen of an instruction, and whether a failure of it restarts the node.
+/// Writes what was seen of an instruction.
 fn put_station(
     place: usize,
     way: &Way,
     station: &Station,
-    restarts: bool,
     alloc: Global,
     out: &mut Vec<u8>,
 ) -> Result<(), AllocError> {
-    let before = way.before(place);
     put_item_number(place.saturating_add(1), alloc, out)?;
     put_begin(station, alloc, out)?;
     put(b"\n", out)?;
     put_unless_ran(&station.outcome, alloc, out)?;
-    put_changes(before, &station.behind, b"", alloc, out)?;
+    put_changes(way.before(place), &station.behind, b"", alloc, out)?;
     put_changes(&station.behind, &station.view, b"traffic: ", alloc, out)?;
     put_traffic(station, alloc, out)?;
-    put_jobs(station, alloc, out)?;
-    put_trial(station, restarts, before, alloc, out)
+    put_jobs(station, alloc, out)
 }
 
-/// Writes what a failure of the instruction would leave, unless it is the end, and whether the node was as before once it was
-/// undone.
+/// Writes the consequences of a failure of the instruction, and whether the node was as before after it was undone, unless they
+/// are the same as last written for the instructions before it. Returns what was last written.
 fn put_trial(
     station: &Station,
     restarts: bool,
     before: &NodeView,
+    told: Vec<u8>,
     alloc: Global,
     out: &mut Vec<u8>,
-) -> Result<(), AllocError> {
-    put(INDENT, out)?;
-    if station.instruction.is_some() {
-        put_left(restarts, before, alloc, out)?;
-        put(b"; ", out)?;
+) -> Result<Vec<u8>, AllocError> {
+    let trial = trial_of(station, restarts, before, alloc)?;
+    if trial.as_slice() != told.as_slice() {
+        put(INDENT, out)?;
+        put(trial.as_slice(), out)?;
+        put(b"\n", out)?;
     }
-    put(undone_words(station), out)?;
-    put(b"\n", out)
+    Ok(trial)
+}
+
+/// Returns the consequences of a failure from the instruction on, unless it is the end, and whether the node was as before after
+/// it was undone.
+fn trial_of(
+    station: &Station,
+    restarts: bool,
+    before: &NodeView,
+    alloc: Global,
+) -> Result<Vec<u8>, AllocError> {
+    let mut trial = Vec::new(alloc);
+    if station.instruction.is_some() {
+        put_left(restarts, before, alloc, &mut trial)?;
+        put(b"; each ", &mut trial)?;
+    }
+    put(undone_words(station), &mut trial)?;
+    Ok(trial)
 }
 
 /// Appends the instruction, or that the script is at its end.
 ///
 /// # Errors
 ///
-/// `AllocError` where memory is refused.
+/// `AllocError` if an allocation fails.
 pub fn put_begin(station: &Station, alloc: Global, out: &mut Vec<u8>) -> Result<(), AllocError> {
     match &station.instruction {
         Some(instruction) => put_instruction(instruction, alloc, out),
@@ -87,7 +105,7 @@ pub fn put_begin(station: &Station, alloc: Global, out: &mut Vec<u8>) -> Result<
     }
 }
 
-/// Writes what an instruction came to, unless it was carried out.
+/// Writes the outcome of an instruction, unless it was executed.
 fn put_unless_ran(outcome: &Outcome, alloc: Global, out: &mut Vec<u8>) -> Result<(), AllocError> {
     match outcome {
         Outcome::Ran | Outcome::Finished => Ok(()),
@@ -99,7 +117,7 @@ fn put_unless_ran(outcome: &Outcome, alloc: Global, out: &mut Vec<u8>) -> Result
     }
 }
 
-/// Whether the node was as before once the instruction was undone.
+/// Returns in words whether the node was as before after the instruction was undone.
 pub fn undone_words(station: &Station) -> &'static [u8] {
     if station.is_as_before {
         b"undone: as before"
@@ -108,7 +126,8 @@ pub fn undone_words(station: &Station) -> &'static [u8] {
     }
 }
 
-/// Writes what has changed from one view to another.
+/// Writes what has changed from one view to another. Of processes that change alike two are printed, and how many more there
+/// are.
 fn put_changes(
     before: &NodeView,
     after: &NodeView,
@@ -117,30 +136,40 @@ fn put_changes(
     out: &mut Vec<u8>,
 ) -> Result<(), AllocError> {
     put_module_changes(before, after, begin, alloc, out)?;
+    let mut groups = Groups::new(alloc);
     for pid in changed_processes(alloc, before, after)? {
-        put_process_line(before.process(pid), after.process(pid), begin, alloc, out)?;
+        put_process_line(
+            before.process(pid),
+            after.process(pid),
+            begin,
+            &mut groups,
+            alloc,
+            out,
+        )?;
     }
-    Ok(())
+    groups.put_rest(begin, alloc, out)
 }
 
-/// Writes what has become of a process, unless it is as it was but for messages that it has served.
+/// Writes how a process has changed. Writes nothing if it is unchanged except for messages that it has served, or if enough
+/// processes that changed alike are printed.
 fn put_process_line(
     before: Option<&ProcessView>,
     after: Option<&ProcessView>,
     begin: &[u8],
+    groups: &mut Groups,
     alloc: Global,
     out: &mut Vec<u8>,
 ) -> Result<(), AllocError> {
-    if has_only_served(before, after) {
+    if has_only_served(before, after) || !groups.add(before, after, alloc)? {
         return Ok(());
     }
-    put(INDENT, out)?;
-    put(begin, out)?;
-    put_process_change(before, after, alloc, out)?;
-    put(b"\n", out)
+    let mut line = Vec::new(alloc);
+    put(begin, &mut line)?;
+    put_process_change(before, after, alloc, &mut line)?;
+    put_parted(line.as_slice(), out)
 }
 
-/// Whether a process is as it was, but for messages that it has served.
+/// Returns whether a process is unchanged except for messages that it has served.
 fn has_only_served(before: Option<&ProcessView>, after: Option<&ProcessView>) -> bool {
     match (before, after) {
         (Some(before), Some(after)) => before.doing.same(&after.doing)
@@ -175,11 +204,11 @@ fn put_serial(serial: Option<u64>, alloc: Global, out: &mut Vec<u8>) -> Result<(
     }
 }
 
-/// Appends what has become of a module.
+/// Appends how a module has changed.
 ///
 /// # Errors
 ///
-/// `AllocError` where memory is refused.
+/// `AllocError` if an allocation fails.
 pub fn put_module_change(
     name: &Atom,
     after: Option<&ModuleView>,
@@ -207,11 +236,11 @@ fn put_name(process: &ProcessView, alloc: Global, out: &mut Vec<u8>) -> Result<(
     put_pid(process.pid, alloc, out)
 }
 
-/// Appends what has become of a process, of long states their first characters.
+/// Appends how a process has changed; of a long state only its first characters.
 ///
 /// # Errors
 ///
-/// `AllocError` where memory is refused.
+/// `AllocError` if an allocation fails.
 pub fn put_process_change(
     before: Option<&ProcessView>,
     after: Option<&ProcessView>,
@@ -236,7 +265,7 @@ pub fn put_process_change(
     }
 }
 
-/// Appends in what a process differs.
+/// Appends how a process differs.
 fn put_differences(
     before: &ProcessView,
     after: &ProcessView,
@@ -262,7 +291,7 @@ fn put_differences(
     Ok(())
 }
 
-/// The word of what a process does now.
+/// Returns the word of what a process does now.
 pub fn doing_word(doing: &Doing) -> &'static [u8] {
     match doing {
         Doing::Idle => b"idle",
@@ -271,11 +300,11 @@ pub fn doing_word(doing: &Doing) -> &'static [u8] {
     }
 }
 
-/// Appends where a process rests: the state of a callback module, or the arguments of a loop function.
+/// Appends the place at which a process rests: the state of a callback module, or the arguments of a loop function.
 ///
 /// # Errors
 ///
-/// `AllocError` where memory is refused.
+/// `AllocError` if an allocation fails.
 pub fn put_standing(
     place: &Place,
     extent: Extent,
@@ -306,8 +335,8 @@ pub fn put_standing(
     }
 }
 
-/// How many messages processes have served from one view to another.
-fn served_between(before: &NodeView, after: &NodeView) -> u64 {
+/// Returns the number of messages that processes have served from one view to another.
+pub fn served_between(before: &NodeView, after: &NodeView) -> u64 {
     let mut served: u64 = 0;
     for process in after.processes.as_slice() {
         if let Some(process) = process {
@@ -321,7 +350,7 @@ fn served_between(before: &NodeView, after: &NodeView) -> u64 {
     served
 }
 
-/// How many replies were sent.
+/// Returns the number of replies that were sent.
 fn reply_count(station: &Station) -> u64 {
     let mut count: u64 = 0;
     for happening in station.happened.as_slice() {
@@ -330,7 +359,7 @@ fn reply_count(station: &Station) -> u64 {
     count
 }
 
-/// Writes how many messages of the traffic were served, and how many replies were sent, if there were any.
+/// Writes the number of messages of the traffic that were served, and the number of replies, if there were any.
 fn put_traffic(station: &Station, alloc: Global, out: &mut Vec<u8>) -> Result<(), AllocError> {
     let served = served_between(&station.behind, &station.view);
     let replies = reply_count(station);
@@ -349,7 +378,7 @@ fn put_traffic(station: &Station, alloc: Global, out: &mut Vec<u8>) -> Result<()
 ///
 /// # Errors
 ///
-/// `AllocError` where memory is refused.
+/// `AllocError` if an allocation fails.
 pub fn put_reply(
     reply: &Reply,
     extent: Extent,
@@ -370,7 +399,7 @@ pub fn put_reply(
     }
 }
 
-/// Writes how an instruction goes while jobs run, where there are any.
+/// Writes the trial of an instruction while jobs run, if there are any.
 fn put_jobs(station: &Station, alloc: Global, out: &mut Vec<u8>) -> Result<(), AllocError> {
     match &station.jobs {
         Some(run) => {
@@ -382,11 +411,11 @@ fn put_jobs(station: &Station, alloc: Global, out: &mut Vec<u8>) -> Result<(), A
     }
 }
 
-/// Appends how an instruction goes while jobs run; the node is the one behind it.
+/// Appends the trial of an instruction while jobs run; the node is the one after it.
 ///
 /// # Errors
 ///
-/// `AllocError` where memory is refused.
+/// `AllocError` if an allocation fails.
 pub fn put_jobs_run(
     run: &JobsRun,
     behind: &NodeView,

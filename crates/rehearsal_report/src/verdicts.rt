@@ -1,4 +1,4 @@
-// How an upgrade is judged by what was found.
+// The verdict on an upgrade.
 ghost use Rattle.std.specs.Prelude.{◌≡◌, ◌↔◌, Contains, IsTrue};
 ghost use Rattle.rehearsal_report.specs.Verdicts.{HasCountedFinding, HasCountedObservation, IsCounted, IsCountedFinding};
 ghost use Rattle.rehearsal_report.specs.Verdicts.{IsCountedObservation, IsVerdict, IsVerdictOfGoing};
@@ -8,7 +8,7 @@ use crate::report::Report;
 use rehearsals::Observation;
 use upgrade_review::Finding;
 
-/// How an upgrade is judged.
+/// A verdict on an upgrade.
 #[derive(Clone, Copy, Debug, PartialEq, Eq)]
 pub enum Verdict {
     /// It would go up and down, and nothing was found of a kind that isn't allowed.
@@ -59,7 +59,7 @@ fn has_counted_finding(allowed: &[Kind], findings: &[Finding]) -> bool
         .any(|finding| is_counted_finding(allowed, finding))
 }
 
-/// Returns whether something that was seen counts.
+/// Returns whether one of the observations counts.
 fn has_counted_observation(allowed: &[Kind], observations: &[Observation]) -> bool
     ensures { IsTrue result ↔ HasCountedObservation allowed.now observations.now }
 {
@@ -75,16 +75,23 @@ pub(crate) fn is_counted_finding(allowed: &[Kind], finding: &Finding) -> bool
     !is_allowed(allowed, kind_of_finding(finding))
 }
 
-/// Returns whether something that was seen counts.
+/// Returns whether one of the observations counts.
 pub(crate) fn is_counted_observation(allowed: &[Kind], observation: &Observation) -> bool
     ensures { IsTrue result ↔ IsCountedObservation allowed.now observation.now }
 {
     !is_allowed(allowed, kind_of_observation(observation))
 }
 
-/// Returns whether a kind is one of those that are allowed.
+/// Returns whether a kind is among the allowed ones.
 pub fn is_allowed(allowed: &[Kind], kind: Kind) -> bool
     ensures { IsTrue result ↔ Contains allowed.now kind }
 {
-    allowed.iter().any(|one| *one == kind)
+    allowed.iter().any(|one| is_kind(*one, kind))
+}
+
+/// Returns whether two kinds are the same.
+fn is_kind(one: Kind, other: Kind) -> bool
+    ensures { IsTrue result ↔ (one ≡ other) }
+{
+    one == other
 }

@@ -1,4 +1,4 @@
-// Texts that are written.
+// Functions that write texts.
 use diagnostics::push_shown;
 use erl_term::{Atom, Term, print, print_atom};
 use node_views::NodeView;
@@ -14,11 +14,31 @@ pub enum Extent {
     Whole,
 }
 
-/// How many characters of a term are shown of a long one.
+/// The number of characters that are shown of a long term.
 const MOST_SHOWN: usize = 60;
 
-/// What stands before a line about an instruction.
+/// The indentation of a line about an instruction.
 pub(crate) const INDENT: &[u8] = b"        ";
+
+/// The largest number of characters in a line about an instruction, unless it can't be split.
+const MOST_COLUMNS: usize = 92;
+
+/// Appends a line about an instruction; a long one is split before the new state.
+pub(crate) fn put_parted(line: &[u8], out: &mut Vec<u8>) -> Result<(), AllocError> {
+    let text = str::from_utf8(line).unwrap_or("");
+    put(INDENT, out)?;
+    match text.split_once(" -> ") {
+        Some((before, after)) if text.chars().count() > MOST_COLUMNS => {
+            put(before.as_bytes(), out)?;
+            put(b"\n", out)?;
+            put(INDENT, out)?;
+            put(b"  -> ", out)?;
+            put(after.as_bytes(), out)?;
+        }
+        _ => put(line, out)?,
+    }
+    put(b"\n", out)
+}
 
 /// Appends bytes.
 pub(crate) fn put(bytes: &[u8], out: &mut Vec<u8>) -> Result<(), AllocError> {
@@ -31,7 +51,7 @@ pub(crate) fn put_number(number: u64, alloc: Global, out: &mut Vec<u8>) -> Resul
     put(text.as_bytes(), out)
 }
 
-/// Appends a number, with blanks before it up to three places, and two blanks behind.
+/// Appends a number, padded with blanks to three places, and two blanks after it.
 pub(crate) fn put_item_number(
     number: usize,
     alloc: Global,
@@ -62,7 +82,7 @@ pub(crate) fn put_term(term: &Term, alloc: Global, out: &mut Vec<u8>) -> Result<
     put_whole(str::from_utf8(text.as_slice()).unwrap_or(""), alloc, out)
 }
 
-/// Appends as much of a term as is to be shown.
+/// Appends a term in the extent that is to be shown.
 pub(crate) fn put_shown(
     term: &Term,
     extent: Extent,
@@ -75,14 +95,14 @@ pub(crate) fn put_shown(
     }
 }
 
-/// Appends a term, of a long one its first characters.
+/// Appends a term; of a long one only its first characters.
 fn put_short(term: &Term, alloc: Global, out: &mut Vec<u8>) -> Result<(), AllocError> {
     let mut whole = Vec::new(alloc);
     print(term, &mut whole)?;
     put_cut(str::from_utf8(whole.as_slice()).unwrap_or(""), alloc, out)
 }
 
-/// Appends a text, of a long one its first characters.
+/// Appends a text; of a long one only its first characters.
 pub(crate) fn put_cut(text: &str, alloc: Global, out: &mut Vec<u8>) -> Result<(), AllocError> {
     match text.char_indices().nth(MOST_SHOWN) {
         Some((end, _)) => {
@@ -103,7 +123,7 @@ pub(crate) fn put_pid(pid: u64, alloc: Global, out: &mut Vec<u8>) -> Result<(), 
 ///
 /// # Errors
 ///
-/// `AllocError` where memory is refused.
+/// `AllocError` if an allocation fails.
 pub fn put_process(
     pid: u64,
     view: &NodeView,

@@ -1,4 +1,4 @@
-// What is likely wrong, the weightiest first.
+// What is likely wrong, the most important first.
 use crate::findings::{finding_advice, put_finding_fact};
 use crate::kinds::{KINDS, Kind, kind_of_finding, kind_of_observation};
 use crate::observations::{observation_advice, put_observation_fact};
@@ -10,7 +10,7 @@ use rehearsals::Observation;
 use std::alloc::{AllocError, Global};
 use upgrade_review::Finding;
 
-/// Writes what is likely wrong. Writes nothing if nothing was found, and the upgrade fails.
+/// Writes what is likely wrong. Writes nothing if nothing was found and the upgrade fails.
 pub(crate) fn put_wrong(
     report: &Report<'_>,
     alloc: Global,
@@ -26,7 +26,7 @@ pub(crate) fn put_wrong(
     }
 }
 
-/// Writes all that was found, one kind after the other.
+/// Writes all findings, one kind after the other.
 fn put_all(report: &Report<'_>, alloc: Global, out: &mut Vec<u8>) -> Result<(), AllocError> {
     for kind in KINDS {
         put_of_kind(*kind, report, alloc, out)?;
@@ -34,7 +34,7 @@ fn put_all(report: &Report<'_>, alloc: Global, out: &mut Vec<u8>) -> Result<(), 
     Ok(())
 }
 
-/// Writes what was found of a kind.
+/// Writes the findings of a kind.
 fn put_of_kind(
     kind: Kind,
     report: &Report<'_>,
@@ -46,7 +46,7 @@ fn put_of_kind(
     put_observations(kind, report, alloc, out)
 }
 
-/// Writes those of the findings that are of a kind.
+/// Writes the findings about the releases and the scripts that are of a kind.
 fn put_findings(
     kind: Kind,
     findings: &[Finding],
@@ -62,7 +62,7 @@ fn put_findings(
     Ok(())
 }
 
-/// Writes those things that were seen and are of a kind.
+/// Writes the observations that are of a kind.
 fn put_observations(
     kind: Kind,
     report: &Report<'_>,
@@ -77,7 +77,7 @@ fn put_observations(
     Ok(())
 }
 
-/// Writes a finding: a line that says what it is, and one that says what to do.
+/// Writes a finding: a line with its text, and one with the advice.
 fn put_finding(
     finding: &Finding,
     allowed: &[Kind],
@@ -90,7 +90,7 @@ fn put_finding(
     put_advice(finding_advice(finding), out)
 }
 
-/// Writes what was seen: a line that says what it is, and one that says what to do.
+/// Writes an observation: a line with its text, and one with the advice.
 fn put_observation(
     observation: &Observation,
     report: &Report<'_>,
@@ -113,7 +113,7 @@ fn put_kind(kind: Kind, allowed: &[Kind], out: &mut Vec<u8>) -> Result<(), Alloc
     put(b"]", out)
 }
 
-/// Writes what to do in a line.
+/// Writes advice in a line.
 fn put_advice(advice: &[u8], out: &mut Vec<u8>) -> Result<(), AllocError> {
     put(b"\n", out)?;
     put(INDENT, out)?;

@@ -6,8 +6,9 @@ use Rattle.upgrade_review.proofs.Adding.{adds_alike, adds_both, adds_nothing}
 use Rattle.upgrade_review.proofs.Noting.{on_ok}
 use Rattle.upgrade_review.specs.Gathering.{Adds, FromEach}
 use Rattle.node_views.specs.declared.node_view.NodeView.{NodeView}
-use Rattle.rehearsals.specs.Observing.{IsOnReturn}
+use Rattle.rehearsals.specs.Observing.{IsOnBoot, IsOnReturn}
 use Rattle.rehearsals.specs.declared.observing.Observation.{Observation}
+use Rattle.rehearsals.specs.declared.way.Boot.{Boot}
 use Rattle.rehearsals.specs.declared.way.Returned.{Returned}
 
 module _ {F : Type 0} (D : ℕ → Type 0) (make : ℕ → F) where
@@ -50,7 +51,7 @@ members_noted {X} {F} R xs old new all = adds_alike (FromEach (λ i x. R x) xs) 
     (λ o w. ((w.1).0, w.0, slice_get_read xs (length xs) (w.1).0 w.0 refl (w.1).1 (sym (w.1).2), w.2))
     all
 
--- of what there is, if it is there
+-- of an optional value, if there is one
 pub on_some : {T E X F : Type 0} (r : Result T E) (R : X → F → Type 0) (o : Option X) (x : X) (old new : List F) → o ≡ Some x →
     OnOk r (Adds (R x) old new) → OnOk r (Adds (λ f. (y : X) × (o ≡ Some y) × R y f) old new)
 on_some {T} {E} {X} {F} r R o x old new is on =
@@ -70,7 +71,12 @@ pub noted_if : {T E F : Type 0} (r : Result T E) (D : F → Type 0) (P : Type 0)
 noted_if {T} {E} {F} r D P one old new holds only is on = on_ok r (Adds (λ f. f ≡ one) old new) (Adds D old new)
     (λ adds. adds_alike (λ f. f ≡ one) D old new (λ f same. is f same holds) only adds) on
 
--- of what was seen where both ways were gone without traffic
+-- of what was seen of both ways without traffic
 pub on_return : {T E : Type 0} (r : Result T E) (before : NodeView) (seen returned : Returned) (old new : List Observation) →
     returned ≡ seen → OnOk r (Adds (IsOnReturn before seen) old new) → OnOk r (Adds (IsOnReturn before returned) old new)
 on_return r before seen returned old new is on = subst (λ s. OnOk r (Adds (IsOnReturn before s) old new)) (sym is) on
+
+-- of the boot of the release that is installed
+pub on_boot : {T E : Type 0} (r : Result T E) (seen it : Boot) (old new : List Observation) → it ≡ seen →
+    OnOk r (Adds (IsOnBoot seen) old new) → OnOk r (Adds (IsOnBoot it) old new)
+on_boot r seen it old new is on = subst (λ b. OnOk r (Adds (IsOnBoot b) old new)) (sym is) on

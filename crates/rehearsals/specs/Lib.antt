@@ -1,2 +1,3 @@
 pub mod Observing
+pub mod OnOtp
 pub mod Ways

@@ -7,27 +7,31 @@ use Rattle.low_instructions.specs.declared.low.Low.TheVariants.{LoadObjectCode, 
 use Rattle.low_instructions.specs.declared.low.Low.TheVariants.{Resume, CodeChange, Stop, Start, Apply}
 use Rattle.low_instructions.specs.declared.modules.Direction.{Direction}
 use Rattle.low_instructions.specs.declared.modules.Direction.TheVariants.{Up, Down}
+use Rattle.node_questions.specs.declared.comparing.Difference.{Difference}
 use Rattle.node_views.specs.Changes.{process_of}
 use Rattle.node_views.specs.declared.node_view.NodeView.{NodeView}
 use Rattle.node_views.specs.declared.process_view.ProcessView.{ProcessView}
 use Rattle.process_effects.specs.declared.told.Reply.{Reply as ToClient}
 use Rattle.process_effects.specs.declared.told.ReplyBody.{ReplyBody}
 use Rattle.process_effects.specs.declared.told.ReplyBody.TheVariants.{Reply, Down as DownReply}
+use Rattle.rehearsals.specs.OnOtp.{IsOrder, IsPassedOver, IsTemporary}
 use Rattle.rehearsals.specs.declared.happening.Exit.{Exit}
 use Rattle.rehearsals.specs.declared.happening.Happening.{Happening}
 use Rattle.rehearsals.specs.declared.observing.Moment.{Moment}
 use Rattle.rehearsals.specs.declared.observing.Moment.TheVariants.{At, Before}
 use Rattle.rehearsals.specs.declared.observing.Observation.{Observation}
 use Rattle.rehearsals.specs.declared.observing.Observation.TheVariants.{SuspendsNobody, Kills, Ends, CallsDown, Unheard, Lingers}
-use Rattle.rehearsals.specs.declared.observing.Observation.TheVariants.{NotRestored, Vanishes, FailsWithoutTraffic}
+use Rattle.rehearsals.specs.declared.observing.Observation.TheVariants.{NotRestored, Restless, Vanishes, FailsWithoutTraffic, BootFails, Differs}
 use Rattle.rehearsals.specs.declared.station.Station.{Station}
+use Rattle.rehearsals.specs.declared.way.Boot.{Boot}
+use Rattle.rehearsals.specs.declared.way.Boot.TheVariants.{Fails, Boots, Compared}
 use Rattle.rehearsals.specs.declared.way.Rehearsal.{Rehearsal}
 use Rattle.rehearsals.specs.declared.way.Returned.{Returned}
 use Rattle.rehearsals.specs.declared.way.Returned.TheVariants.{Untried, Failed, Behind}
 use Rattle.rehearsals.specs.declared.way.Way.{Way}
 
--- The node before the instruction at an index: the one behind the traffic of the instruction before it, or where the script
--- begins.
+-- The node before the instruction at an index: the one after the traffic of the instruction before it, or the one at which the
+-- script begins.
 
 abbrev pub view_of : Option Station → NodeView → NodeView
 view_of None begun = begun
@@ -37,8 +41,8 @@ abbrev pub before_of : Way → ℕ → NodeView
 before_of w zero = w.begun
 before_of w (suc i) = view_of (slice_get w.stations.items i) w.begun
 
--- What happened last before the instruction at an index, and last on a way: with the instruction before it, or this if there is
--- none.
+-- What happened last before the instruction at an index, and what happened last on a way: with the instruction before, or
+-- `first` if there is none.
 
 abbrev pub happened_at : Option Station → List Happening → List Happening
 happened_at None first = first
@@ -51,7 +55,7 @@ happened_before first w (suc i) = happened_at (slice_get w.stations.items i) fir
 abbrev pub happened_last : List Happening → Way → List Happening
 happened_last first w = happened_before first w (length w.stations.items)
 
--- whether an instruction purges code: a `load` does where there is old code
+-- whether an instruction purges code: a `load` does if there is old code
 abbrev pub purges : Low → Bool
 purges (LoadObjectCode application version modules) = false
 purges PointOfNoReturn = false
@@ -69,21 +73,21 @@ abbrev pub Purges : Option Low → Type 0
 Purges None = ⊥
 Purges (Some low) = purges low ≡ true
 
--- Two states are one: those of a callback module, or the function and the arguments of a loop, in whichever code.
+-- Two states are the same: those of a callback module, or the function and the arguments of a loop, in any version of the code.
 abbrev pub IsOneState : Place → Place → Type 0
 IsOneState (Server m s) (Server n t) = (m ≡ n) × (s ≡ t)
 IsOneState (Server m s) (Loop n j g us) = ⊥
 IsOneState (Loop m i f ts) (Server n t) = ⊥
 IsOneState (Loop m i f ts) (Loop n j g us) = (m ≡ n) × (f ≡ g) × (ts ≡ us)
 
--- a process lives on, and has another state
+-- a process still lives, and has another state
 abbrev pub HasOtherState : Option ProcessView → Option ProcessView → Type 0
 HasOtherState None after = ⊥
 HasOtherState (Some before) None = ⊥
 HasOtherState (Some before) (Some after) = IsOneState before.place after.place → ⊥
 
--- What came of the messages that were served: a process has ended by its job; a call got the exit reason of a process, and no
--- reply; or nobody had the name that a message was sent to, and that was not so with what happened before (gen_server(3), call/2).
+-- What the served messages caused: a process ended because of its job; a call got the exit reason of a process, and no reply; or
+-- no process had the name that a message was sent to, and that was not so with what happened before (gen_server(3), call/2).
 
 abbrev pub IsExitOf : Moment → Happening → Observation → Type 0
 IsExitOf when h o = (e : Exit) × (h.exit ≡ Some e) × (o ≡ Ends when e)
@@ -120,24 +124,33 @@ abbrev pub IsServedBadly : Moment → List Happening → List Happening → Obse
 IsServedBadly when first happened o =
     IsExit when happened o ⊎ (IsCallDown when happened o ⊎ IsNewlyUnheard when first happened o)
 
--- What is seen of an instruction: a module of which nobody is suspended, or a process that is killed by a purge.
+-- What is seen of an instruction: a module by which no process is suspended, a process that is killed by a purge, or what OTP
+-- does otherwise with it.
 
 abbrev pub IsNobody : Direction → ℕ → Station → Observation → Type 0
-IsNobody way i s o = (m : List ℕ) × Contains s.nobody m × (o ≡ SuspendsNobody way i m)
+IsNobody way i s o = (m : List ℕ) × Contains s.outlook.nobody m × (o ≡ SuspendsNobody way i m)
 
 abbrev pub IsKill : Direction → ℕ → NodeView → Station → Observation → Type 0
 IsKill way i before s o = (pid : ℕ) × Purges s.instruction × IsSome (process_of pid before)
     × (process_of pid s.behind ≡ None) × (o ≡ Kills way i pid)
 
-abbrev pub IsOfInstruction : Direction → ℕ → NodeView → Station → Observation → Type 0
-IsOfInstruction way i before s o = IsNobody way i s o ⊎ IsKill way i before s o
+abbrev pub IsOtherwiseOnOtp : Direction → ℕ → NodeView → Station → Observation → Type 0
+IsOtherwiseOnOtp way i before s o = IsTemporary way i s o ⊎ (IsPassedOver way i s o ⊎ IsOrder way i before s o)
 
--- The same, or what came of the messages that were served with it, after this had happened before the way.
+abbrev pub IsOfInstruction : Direction → ℕ → NodeView → Station → Observation → Type 0
+IsOfInstruction way i before s o = IsNobody way i s o ⊎ (IsKill way i before s o ⊎ IsOtherwiseOnOtp way i before s o)
+
+-- A process still had a message to take when the script went on, though many had been served (`most_served` of
+-- `upgrade_rehearsal`).
+abbrev pub IsStillAtIt : Station → Observation → Type 0
+IsStillAtIt s o = (pid : ℕ) × (s.restless ≡ Some pid) × (o ≡ Restless pid)
+
+-- The same, or what the messages caused that were served after it, given what happened before the way.
 abbrev pub IsAtStation : Direction → List Happening → Way → ℕ → Station → Observation → Type 0
 IsAtStation way first w i s o =
-    IsOfInstruction way i (before_of w i) s o ⊎ IsServedBadly (At way i) (happened_before first w i) s.happened o
+    IsOfInstruction way i (before_of w i) s o ⊎ (IsServedBadly (At way i) (happened_before first w i) s.happened o ⊎ IsStillAtIt s o)
 
--- What is seen on a way: of one of its instructions; or a process that still uses old code at its end.
+-- What is seen on a way: something of one of its instructions, or a process that still uses old code at its end.
 
 abbrev pub IsLingering : Direction → Way → Observation → Type 0
 IsLingering way w o = (m : List ℕ) × (pid : ℕ) × Contains w.lingering (m, pid) × (o ≡ Lingers way m pid)
@@ -146,7 +159,7 @@ abbrev pub IsOnWay : Direction → List Happening → Way → Observation → Ty
 IsOnWay way first w o = ((i : ℕ) × (s : Station) × (slice_get w.stations.items i ≡ Some s) × IsAtStation way first w i s o)
     ⊎ IsLingering way w o
 
--- After both ways a process lives on and has another state, or lives no more.
+-- After both ways a process still lives and has another state, or no longer lives.
 
 abbrev pub IsNotRestored : NodeView → NodeView → Observation → Type 0
 IsNotRestored before after o = (pid : ℕ) × HasOtherState (process_of pid before) (process_of pid after) × (o ≡ NotRestored pid)
@@ -158,7 +171,7 @@ HasVanished before after o =
 abbrev pub IsOtherwise : NodeView → NodeView → Observation → Type 0
 IsOtherwise before after o = IsNotRestored before after o ⊎ HasVanished before after o
 
--- What is seen on the way down, if it was gone; and on both ways.
+-- What is seen on the way down, if there was one; and what is seen on both ways.
 
 abbrev pub IsOnWayDown : List Happening → Option Way → Observation → Type 0
 IsOnWayDown first down o = (w : Way) × (down ≡ Some w) × IsOnWay Down first w o
@@ -166,13 +179,25 @@ IsOnWayDown first down o = (w : Way) × (down ≡ Some w) × IsOnWay Down first 
 abbrev pub IsOnWays : List Happening → Rehearsal → Observation → Type 0
 IsOnWays first r o = IsOnWay Up first r.up o ⊎ IsOnWayDown (happened_last first r.up) r.down o
 
--- What is seen where both ways were gone without traffic: that one of them fails, or which process has not the state that it had.
+-- What is seen of both ways without traffic: that one of them fails, or which process has another state than before.
 
 abbrev pub IsOnReturn : NodeView → Returned → Observation → Type 0
 IsOnReturn before Untried o = ⊥
 IsOnReturn before Failed o = o ≡ FailsWithoutTraffic
 IsOnReturn before (Behind after) o = IsOtherwise before after o
 
--- What a rehearsal shows: of the traffic before the way up; of one of its ways; or of both without traffic.
+-- What is seen of the boot of the release that is installed: that it fails, or how the node after the way up differs from it.
+
+abbrev pub IsDifference : List Difference → Observation → Type 0
+IsDifference differences o = (d : Difference) × Contains differences d × (o ≡ Differs d)
+
+abbrev pub IsOnBoot : Boot → Observation → Type 0
+IsOnBoot (Fails app reason) o = o ≡ BootFails
+IsOnBoot Boots o = ⊥
+IsOnBoot (Compared differences) o = IsDifference differences.items o
+
+-- What a rehearsal shows of the traffic before the way up, of one of its ways, of both without traffic, or of the boot of the
+-- release that is installed.
 abbrev pub IsObserved : Rehearsal → Observation → Type 0
-IsObserved r o = IsServedBadly Before [] r.happened o ⊎ (IsOnWays r.happened r o ⊎ IsOnReturn r.before r.returned o)
+IsObserved r o = IsServedBadly Before [] r.happened o
+    ⊎ (IsOnWays r.happened r o ⊎ (IsOnReturn r.before r.returned o ⊎ IsOnBoot r.boot o))

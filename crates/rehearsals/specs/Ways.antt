@@ -8,7 +8,7 @@ use Rattle.rehearsals.specs.declared.way.Returned.{Returned}
 use Rattle.rehearsals.specs.declared.way.Returned.TheVariants.{Untried, Failed, Behind}
 use Rattle.rehearsals.specs.declared.way.Way.{Way}
 
--- Whether an instruction was carried out, and whether its script is finished.
+-- Whether an instruction was executed, and whether its script is finished.
 
 abbrev pub is_carried_out : Outcome → Bool
 is_carried_out Ran = true
@@ -24,7 +24,7 @@ is_end (Recovered reason) = false
 is_end (Restarted reason) = false
 is_end (Refused why) = false
 
--- Whether a way has come to the end of its script: that was seen last.
+-- Whether a way has reached the end of its script, which was seen last.
 
 abbrev pub last_of : Way → Option Station
 last_of w = slice_get w.stations.items (length w.stations.items - 1)
@@ -36,7 +36,7 @@ is_finished_by (Some s) = is_end s.outcome
 abbrev pub is_finished : Way → Bool
 is_finished w = is_finished_by (last_of w)
 
--- Whether there was a way down, and it has come to its end; whether one of the ways fails without traffic; and whether an
+-- Whether there was a way down, and it has reached its end; whether one of the ways fails without traffic; and whether an
 -- upgrade would go up and down, with traffic and without.
 
 abbrev pub is_down : Option Way → Bool

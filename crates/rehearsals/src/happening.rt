@@ -1,10 +1,10 @@
-// What an event has brought about.
+// What an event causes.
 use erl_term::{Atom, Term};
 use process_effects::Reply;
 use std::alloc::{AllocError, Global};
 use values::{Duplicate, Row, Same};
 
-/// The exit of a process that has ended by the job that it ran (Erlang Reference Manual, Processes).
+/// The exit of a process that ended because of the job that it ran (Erlang Reference Manual, Processes).
 #[derive(Drop)]
 pub struct Exit {
     /// The process.
@@ -39,17 +39,17 @@ impl Duplicate for Exit {
     }
 }
 
-/// What an event has brought about that clients and supervisors see.
+/// What an event causes that clients and supervisors see.
 pub struct Happening {
     /// The replies that were sent, in order.
     pub replies: Row<Reply>,
-    /// The exit of the process whose job was committed, if it has ended by it.
+    /// The exit of the process whose job was committed, if the process ended because of it.
     pub exit: Option<Exit>,
-    /// The name that a message was sent to, if the node refused the message: no process has the name then.
+    /// The name that a message was sent to, if the node refused the message because no process had the name.
     pub unheard: Option<Atom>,
 }
 
-/// It is taken apart here, so that the caller that drops one has nothing to prove of its parts.
+/// It is taken apart here, so that code that drops one has nothing to prove of its parts.
 impl Drop for Happening {
     fn drop(self) {
         let Happening {

@@ -1,22 +1,24 @@
 // What a rehearsal has shown that is likely wrong.
-ghost use Rattle.std.specs.Prelude.{◌≡◌, ◌↔◌, ◌⊎◌, Contains, IfOk, IsSome, IsTrue, None, OnOk};
+ghost use Rattle.std.specs.Prelude.{◌≡◌, ◌↔◌, ◌⊎◌, ℕ, Contains, IfOk, IsSome, IsTrue, None, OnOk, Some};
 ghost use Rattle.std.specs.Option.{option_copied};
 ghost use Rattle.node_views.specs.Changes.{process_of};
 ghost use Rattle.rehearsals.specs.Observing.{HasOtherState, HasVanished, IsAtStation, IsKill, IsLingering, IsNobody};
 ghost use Rattle.rehearsals.specs.Observing.{IsNotRestored, IsObserved, IsOfInstruction, IsOnWay, IsOnWayDown, IsOnWays};
-ghost use Rattle.rehearsals.specs.Observing.{IsOneState, IsOtherwise};
-ghost use Rattle.rehearsals.specs.Observing.{IsOnReturn, Purges};
-ghost use Rattle.rehearsals.specs.declared.observing.Observation.TheVariants.{Lingers, SuspendsNobody};
+ghost use Rattle.rehearsals.specs.Observing.{IsOneState, IsOtherwise, IsOtherwiseOnOtp};
+ghost use Rattle.rehearsals.specs.Observing.{IsDifference, IsOnBoot, IsOnReturn, Purges};
+ghost use Rattle.rehearsals.specs.declared.observing.Observation.TheVariants.{Lingers, Restless, SuspendsNobody};
 ghost use Rattle.upgrade_review.specs.Findings.{AreDifferent};
 ghost use Rattle.upgrade_review.specs.Gathering.{Adds, FromEach};
 
 use crate::happening::{Exit, Happening};
+use crate::on_otp::{note_order, note_passed_over, note_temporary};
 use crate::serving::note_served;
 use crate::station::Station;
-use crate::way::{Rehearsal, Returned, Way};
+use crate::way::{Boot, Rehearsal, Returned, Way};
 use erl_semantics::Place;
 use erl_term::Atom;
 use low_instructions::{Direction, Low};
+use node_questions::Difference;
 use node_views::{NodeView, ProcessView};
 use release_words::same_variants;
 use std::alloc::{AllocError, Global};
@@ -28,7 +30,7 @@ use values::{Duplicate, Same};
 pub enum Moment {
     /// Before the way up, while the release that is left served the traffic.
     Before,
-    /// At an instruction of a way, by its index from 0, or while the traffic after it was served.
+    /// At an instruction of a way, by its index from 0, or while the traffic after the instruction was served.
     At {
         /// Whether it is on the way up.
         way: Direction,
@@ -46,7 +48,8 @@ impl Same for Moment {
 /// What a rehearsal has shown that is likely wrong, and where. An index is that of an instruction of the script, from 0.
 #[derive(Drop)]
 pub enum Observation {
-    /// The processes of this module are to be suspended, and no child's specification names it. So its processes, if there are any, go on while its code changes. Name the module in the specification of its child.
+    /// The processes of this module are to be suspended, and no child's specification names it. So its processes, if there are
+    /// any, run on while its code changes. Name the module in the specification of its child.
     SuspendsNobody {
         /// Whether it is on the way up.
         way: Direction,
@@ -64,28 +67,29 @@ pub enum Observation {
         /// The process.
         pid: u64,
     },
-    /// A process has ended by the job that it ran. Before the way up, the traffic is wrong, or the release that is left: what
-    /// follows is rehearsed without the process.
+    /// A process ended because of the job that it ran. Before the way up, the traffic is wrong, or the release that is left:
+    /// what follows is rehearsed without the process.
     Ends {
-        /// When.
+        /// The moment at which it was seen.
         when: Moment,
         /// The process, its message and its exit reason.
         exit: Exit,
     },
-    /// A client that had called a process got its exit reason, and no reply.
+    /// A client that had called a process got the exit reason of the process, and no reply.
     CallsDown {
-        /// When.
+        /// The moment at which it was seen.
         when: Moment,
     },
-    /// A message was sent to this name, and no process had it; with the instruction before, or before the way up, one had.
+    /// A message was sent to this name, and no process had it. With the instruction before, or before the way up, a process had
+    /// the name.
     Unheard {
-        /// When.
+        /// The moment at which it was seen.
         when: Moment,
         /// The name.
         name: Atom,
     },
-    /// This process still uses the old code of a module when the script has ended. The next upgrade of the module that purges
-    /// softly can't begin before it leaves that code, and one that doesn't kills it.
+    /// This process still uses the old code of a module after the script has ended. The next upgrade of the module can't begin
+    /// before the process leaves that code, if it purges softly; if it purges brutally, it kills the process.
     Lingers {
         /// Whether it is on the way up.
         way: Direction,
@@ -94,20 +98,60 @@ pub enum Observation {
         /// The process.
         pid: u64,
     },
-    /// The state of this process is another one after the way up and the way down than before, though nobody has sent it a
-    /// message. `code_change/3` down is no inverse of the one up.
+    /// The state of this process is not the same after the way up and the way down as before, though no client has sent
+    /// anything. `code_change/3` down is not the inverse of the one up.
     NotRestored {
         /// The process.
         pid: u64,
     },
-    /// This process lives no more after the way up and the way down, though nobody has sent it a message: it was stopped or
+    /// This process no longer lives after the way up and the way down, though no client has sent anything. It was stopped or
     /// killed, and its state is lost, whether its child runs again or not.
     Vanishes {
         /// The process.
         pid: u64,
     },
-    /// Without traffic the way up or the way down doesn't come to its end, though with the traffic both do.
+    /// This process still had a message to take when a script went on, though a thousand messages had been served
+    /// before: it is never at rest. What is seen of its state depends on how many messages it has taken.
+    Restless {
+        /// The process.
+        pid: u64,
+    },
+    /// This process of a temporary child is stopped. On OTP its supervisor deletes the child's specification with it, so that no
+    /// `start` starts it again. Make the child transient, or change its state by `code_change/3`.
+    TemporaryOnOtp {
+        /// Whether it is on the way up.
+        way: Direction,
+        /// Where it is stopped.
+        index: usize,
+        /// The process.
+        pid: u64,
+    },
+    /// This instruction fails, and the script with it. OTP ignores such a failure, and goes on.
+    PassedOverOnOtp {
+        /// Whether it is on the way up.
+        way: Direction,
+        /// Where it fails.
+        index: usize,
+    },
+    /// Children that name this module are changed or started, and several messages come into one mailbox. On OTP the children
+    /// are changed and started in another order. Let nothing depend on the order of these messages.
+    OrderOnOtp {
+        /// Whether it is on the way up.
+        way: Direction,
+        /// Where they are changed or started.
+        index: usize,
+        /// The module.
+        module: Atom,
+    },
+    /// Without traffic the way up or the way down doesn't reach its end, though with the traffic both do.
     FailsWithoutTraffic,
+    /// The release that is installed doesn't boot: after it is made permanent, no restart of the node succeeds.
+    BootFails,
+    /// The node after the way up differs in this from one on which the release that is installed has booted.
+    Differs {
+        /// The difference.
+        difference: Difference,
+    },
 }
 
 impl Same for Observation {
@@ -122,12 +166,18 @@ impl Same for Observation {
             Lingers { way: w, module: m, pid: p }
             NotRestored { pid: p }
             Vanishes { pid: p }
+            Restless { pid: p }
+            TemporaryOnOtp { way: w, index: i, pid: p }
+            PassedOverOnOtp { way: w, index: i }
+            OrderOnOtp { way: w, index: i, module: m }
             FailsWithoutTraffic {}
+            BootFails {}
+            Differs { difference: d }
         )
     }
 }
 
-/// Whether an instruction purges code.
+/// Returns whether an instruction purges code.
 fn purges(instruction: &Option<Low>) -> bool
     ensures { IsTrue result ↔ Purges instruction.now }
 {
@@ -137,11 +187,11 @@ fn purges(instruction: &Option<Low>) -> bool
     }
 }
 
-/// What a rehearsal has shown.
+/// Returns what a rehearsal has shown that is likely wrong.
 ///
 /// # Errors
 ///
-/// `AllocError` where memory is refused.
+/// `AllocError` if an allocation fails.
 pub fn observe(alloc: Global, rehearsal: &Rehearsal) -> Result<Vec<Observation>, AllocError>
     ensures observed { IfOk result (λ found. (o : Observation) → Contains found.items o ↔ IsObserved rehearsal.now o) }
     ensures once { IfOk result (λ found. AreDifferent found.items) }
@@ -151,10 +201,11 @@ pub fn observe(alloc: Global, rehearsal: &Rehearsal) -> Result<Vec<Observation>,
     note_served(alloc, Moment::Before, &[], first, &mut found)?;
     note_ways(alloc, first, rehearsal, &mut found)?;
     note_return(&rehearsal.before, &rehearsal.returned, &mut found)?;
+    note_boot(alloc, &rehearsal.boot, &mut found)?;
     Ok(found)
 }
 
-/// Notes what is seen on both ways, after this has happened before the way up.
+/// Notes what is seen on both ways, given what happened before the way up.
 fn note_ways(
     alloc: Global,
     first: &[Happening],
@@ -172,7 +223,7 @@ fn note_ways(
     )
 }
 
-/// Notes what is seen on the way down, if it was gone.
+/// Notes what is seen on the way down, if there was one.
 fn note_way_down(
     alloc: Global,
     first: &[Happening],
@@ -187,7 +238,7 @@ fn note_way_down(
     }
 }
 
-/// Notes what is seen of both ways without traffic, if they were gone so.
+/// Notes what is seen of both ways without traffic, if they were run so.
 fn note_return(
     before: &NodeView,
     returned: &Returned,
@@ -200,6 +251,32 @@ fn note_return(
         Returned::Failed => note(found, Observation::FailsWithoutTraffic),
         Returned::Behind(after) => note_returned(before, after, found),
     }
+}
+
+/// Notes the result of booting the release that is installed.
+fn note_boot(alloc: Global, boot: &Boot, found: &mut Vec<Observation>) -> Result<(), AllocError>
+    ensures { OnOk result (Adds (IsOnBoot boot.now) found.old.items found.new.items) }
+{
+    match boot {
+        Boot::Fails { .. } => note(found, Observation::BootFails),
+        Boot::Boots => Ok(()),
+        Boot::Compared(differences) => note_differences(alloc, differences.as_slice(), found),
+    }
+}
+
+/// Notes how the node after the way up differs from one on which the release that is installed has booted.
+fn note_differences(
+    alloc: Global,
+    differences: &[Difference],
+    found: &mut Vec<Observation>,
+) -> Result<(), AllocError>
+    ensures { OnOk result (Adds (IsDifference differences.now) found.old.items found.new.items) }
+{
+    for difference in differences {
+        let difference = difference.copy(alloc)?;
+        note(found, Observation::Differs { difference })?;
+    }
+    Ok(())
 }
 
 /// Notes what is seen on a way.
@@ -234,7 +311,7 @@ fn note_stations(
     Ok(())
 }
 
-/// Notes what is seen of an instruction, and of the messages that were served with it.
+/// Notes what is seen of an instruction, and of the messages that were served after it.
 fn note_station(
     alloc: Global,
     direction: Direction,
@@ -252,7 +329,18 @@ fn note_station(
     };
     let before = way.happened_before(index, first);
     note_instruction(alloc, direction, index, way.before(index), station, found)?;
-    note_served(alloc, when, before, station.happened.as_slice(), found)
+    note_served(alloc, when, before, station.happened.as_slice(), found)?;
+    note_restless(station.restless, found)
+}
+
+/// Notes the process that still had a message to take, if one had.
+fn note_restless(restless: Option<u64>, found: &mut Vec<Observation>) -> Result<(), AllocError>
+    ensures { OnOk result (Adds (λ o. (pid : ℕ) × (restless ≡ Some pid) × (o ≡ Restless pid)) found.old.items found.new.items) }
+{
+    match restless {
+        Some(pid) => note(found, Observation::Restless { pid }),
+        None => Ok(()),
+    }
 }
 
 /// Notes what is seen of an instruction itself.
@@ -267,10 +355,27 @@ fn note_instruction(
     ensures { OnOk result (Adds (IsOfInstruction direction index before.now station.now) found.old.items found.new.items) }
 {
     note_nobody(alloc, direction, index, station, found)?;
-    note_killed(direction, index, before, station, found)
+    note_killed(direction, index, before, station, found)?;
+    note_otherwise(alloc, direction, index, before, station, found)
 }
 
-/// Notes the modules of which nobody is suspended.
+/// Notes what OTP does otherwise with an instruction.
+fn note_otherwise(
+    alloc: Global,
+    way: Direction,
+    index: usize,
+    before: &NodeView,
+    station: &Station,
+    found: &mut Vec<Observation>,
+) -> Result<(), AllocError>
+    ensures { OnOk result (Adds (IsOtherwiseOnOtp way index before.now station.now) found.old.items found.new.items) }
+{
+    note_temporary(way, index, station, found)?;
+    note_passed_over(way, index, station, found)?;
+    note_order(alloc, way, index, before, station, found)
+}
+
+/// Notes the modules by which no process is suspended.
 fn note_nobody(
     alloc: Global,
     way: Direction,
@@ -280,14 +385,14 @@ fn note_nobody(
 ) -> Result<(), AllocError>
     ensures { OnOk result (Adds (IsNobody way index station.now) found.old.items found.new.items) }
 {
-    for module in station.nobody.as_slice() {
+    for module in station.outlook.nobody.as_slice() {
         let name = module.copy(alloc)?;
         note_suspension(way, index, name, found)?;
     }
     Ok(())
 }
 
-/// Notes that nobody is suspended for a module.
+/// Notes that no process is suspended by a module.
 fn note_suspension(
     way: Direction,
     index: usize,
@@ -304,7 +409,7 @@ fn note_suspension(
     note(found, nobody)
 }
 
-/// Notes the processes that are killed where code is purged.
+/// Notes the processes that are killed when code is purged.
 fn note_killed(
     way: Direction,
     index: usize,
@@ -325,7 +430,7 @@ fn note_killed(
     Ok(())
 }
 
-/// Whether a process lived before, and lives no more.
+/// Returns whether a process lived before, and no longer lives.
 fn has_ended(before: &NodeView, after: &NodeView, pid: u64) -> bool
     ensures { IsTrue result ↔ (IsSome (process_of pid before.now) × (process_of pid after.now ≡ None)) }
 {
@@ -365,7 +470,8 @@ fn note_user(
     note(found, lingers)
 }
 
-/// Whether two states are one: that of a callback module, or the function and the arguments of a loop, in whichever code.
+/// Returns whether two states are the same: that of a callback module, or the function and the arguments of a loop, in any
+/// version of the code.
 fn is_one_state(before: &Place, after: &Place) -> bool
     ensures { IsTrue result ↔ IsOneState before.now after.now }
 {
@@ -395,7 +501,7 @@ fn is_one_state(before: &Place, after: &Place) -> bool
     }
 }
 
-/// Returns whether a process lives on, and has another state.
+/// Returns whether a process still lives, and has another state.
 fn has_changed(before: Option<&ProcessView>, after: Option<&ProcessView>) -> bool
     ensures { IsTrue result ↔ HasOtherState (option_copied before.entry) (option_copied after.entry) }
 {
@@ -405,7 +511,7 @@ fn has_changed(before: Option<&ProcessView>, after: Option<&ProcessView>) -> boo
     }
 }
 
-/// Notes the processes that are not as they were before both ways.
+/// Notes the processes that have another state than before both ways, or no longer live.
 fn note_returned(
     before: &NodeView,
     after: &NodeView,
@@ -417,14 +523,14 @@ fn note_returned(
     note_vanished(before, after, found)
 }
 
-/// Returns whether the process of a pid lives on, and has another state.
+/// Returns whether the process of a pid still lives, and has another state.
 fn is_changed(before: &NodeView, after: &NodeView, pid: u64) -> bool
     ensures { IsTrue result ↔ HasOtherState (process_of pid before.now) (process_of pid after.now) }
 {
     has_changed(before.process(pid), after.process(pid))
 }
 
-/// Notes the processes that have another state than they had.
+/// Notes the processes that have another state than before.
 fn note_changed(
     before: &NodeView,
     after: &NodeView,
@@ -440,7 +546,7 @@ fn note_changed(
     Ok(())
 }
 
-/// Notes the processes that live no more.
+/// Notes the processes that no longer live.
 fn note_vanished(
     before: &NodeView,
     after: &NodeView,

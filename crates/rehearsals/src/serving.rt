@@ -1,4 +1,4 @@
-// What came of the messages that were served, as far as it is likely wrong.
+// What the served messages caused that is likely wrong.
 ghost use Rattle.std.specs.Prelude.{◌≡◌, ◌↔◌, IsTrue, OnOk, Some};
 ghost use Rattle.rehearsals.specs.Observing.{HasCallDown, HasDown, IsCallDown, IsDown, IsExit, IsExitOf, IsNewName, IsNewlyUnheard};
 ghost use Rattle.rehearsals.specs.Observing.{IsServedBadly, IsUnheardIn, IsUnheardOf};
@@ -13,8 +13,8 @@ use std::alloc::{AllocError, Global};
 use upgrade_review::note;
 use values::Duplicate;
 
-/// Notes what came of the messages that were served: who has ended, whether a call got no reply, and which names nobody had,
-/// but for those that nobody had with what happened `first`.
+/// Notes what the served messages caused: which processes have ended, whether a call got no reply, and which names no process
+/// had, except those that no process had with what happened `first`.
 pub(crate) fn note_served(
     alloc: Global,
     when: Moment,
@@ -29,7 +29,7 @@ pub(crate) fn note_served(
     note_unheard(alloc, when, first, happened, found)
 }
 
-/// Notes the processes that have ended by their jobs.
+/// Notes the processes that ended because of their jobs.
 fn note_exits(
     alloc: Global,
     when: Moment,
@@ -44,7 +44,7 @@ fn note_exits(
     Ok(())
 }
 
-/// Notes the process that has ended by its job, if one has.
+/// Notes the process that ended because of its job, if one did.
 fn note_exit_of(
     alloc: Global,
     when: Moment,
@@ -90,7 +90,7 @@ fn has_down(happening: &Happening) -> bool
         .any(|reply| is_down(reply))
 }
 
-/// Returns whether a call got an exit reason, with any of these events.
+/// Returns whether a call got an exit reason with any of these events.
 fn has_call_down(happened: &[Happening]) -> bool
     ensures { IsTrue result ↔ HasCallDown happened.now }
 {
@@ -111,7 +111,7 @@ fn note_downs(
     Ok(())
 }
 
-/// Returns whether nobody had the name that a message was sent to, and it is this name.
+/// Returns whether a message was sent to this name and no process had it.
 fn is_unheard_by(happening: &Happening, name: &Atom) -> bool
     ensures { IsTrue result ↔ (happening.now.unheard ≡ Some name.now) }
 {
@@ -121,7 +121,7 @@ fn is_unheard_by(happening: &Happening, name: &Atom) -> bool
     }
 }
 
-/// Returns whether nobody had this name when a message was sent to it.
+/// Returns whether no process had this name when a message was sent to it.
 fn is_unheard(happened: &[Happening], name: &Atom) -> bool
     ensures { IsTrue result ↔ IsUnheardIn happened.now name.now }
 {
@@ -130,7 +130,7 @@ fn is_unheard(happened: &[Happening], name: &Atom) -> bool
         .any(|happening| is_unheard_by(happening, name))
 }
 
-/// Notes the names that nobody had, but for those that nobody had `first`.
+/// Notes the names that no process had, except those that no process had `first`.
 fn note_unheard(
     alloc: Global,
     when: Moment,
@@ -146,7 +146,7 @@ fn note_unheard(
     Ok(())
 }
 
-/// Notes the name that a message was sent to and nobody had, if one is such.
+/// Notes the name that a message was sent to and no process had, if there is one.
 fn note_unheard_of(
     alloc: Global,
     when: Moment,
@@ -162,7 +162,7 @@ fn note_unheard_of(
     }
 }
 
-/// Notes a name that nobody had, unless nobody had it `first`.
+/// Notes a name that no process had, unless no process had it `first`.
 fn note_unheard_name(
     alloc: Global,
     when: Moment,

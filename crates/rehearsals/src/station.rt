@@ -1,38 +1,39 @@
-// What was seen of an instruction.
+// The record of an instruction.
 ghost use Rattle.std.specs.Prelude.{◌≡◌};
 ghost use Rattle.rehearsals.specs.Ways.{is_carried_out, is_end};
 
 use crate::happening::Happening;
-use erl_term::{Atom, Term};
+use erl_term::Term;
 use low_instructions::Low;
+use node_questions::Outlook;
 use node_types::Refusal;
 use node_views::NodeView;
 use values::Row;
 
-/// What an advance of a script came to.
+/// The result of advancing a script.
 #[derive(Drop)]
 pub enum Outcome {
-    /// The instruction was carried out.
+    /// The instruction was executed.
     Ran,
     /// The script is finished.
     Finished,
-    /// The instruction has failed for this reason, before the point of no return, and the script is given up.
+    /// The instruction has failed for this reason before the point of no return, and the script was given up.
     Recovered(Term),
-    /// The instruction has failed for this reason, behind the point of no return, and the node has restarted.
+    /// The instruction has failed for this reason after the point of no return, and the node has restarted.
     Restarted(Term),
-    /// It was not made, for the node refuses it.
+    /// The script was not advanced, for the node refused it.
     Refused(Refusal),
 }
 
 impl Outcome {
-    /// Whether the instruction was carried out.
+    /// Returns whether the instruction was executed.
     pub fn is_carried_out(&self) -> bool
         ensures { result ≡ is_carried_out self.now }
     {
         matches!(self, Outcome::Ran)
     }
 
-    /// Whether the script is finished.
+    /// Returns whether the script is finished.
     pub fn is_end(&self) -> bool
         ensures { result ≡ is_end self.now }
     {
@@ -40,27 +41,30 @@ impl Outcome {
     }
 }
 
-/// What was seen of an instruction that a script came to.
+/// The record of an instruction that a script reached.
 pub struct Station {
     /// The instruction; none at the end of the script.
     pub instruction: Option<Low>,
-    /// What it came to.
+    /// Its result.
     pub outcome: Outcome,
-    /// The node directly behind it.
+    /// The node directly after it.
     pub behind: NodeView,
-    /// Whether the node was as before it where it was undone.
+    /// Whether the node was as before it after it was undone.
     pub is_as_before: bool,
-    /// The modules that it suspends, and of which no child runs.
-    pub nobody: Row<Atom>,
-    /// How it goes while jobs run, where anybody can take a message once all of the traffic has come.
+    /// What the children of the node before showed of it.
+    pub outlook: Outlook,
+    /// Its trial while jobs run, if any process can take a message after all of the traffic has come.
     pub jobs: Option<JobsRun>,
-    /// The node behind the traffic that was played behind it.
+    /// The node after the traffic that was played after it.
     pub view: NodeView,
-    /// What it and the events of that traffic have brought about, an item for each event.
+    /// The process that still had a message to take then, if one had: at most a thousand messages were served before and after
+    /// each message of the traffic.
+    pub restless: Option<u64>,
+    /// What it and the events of that traffic caused, an item for each event.
     pub happened: Row<Happening>,
 }
 
-/// It is taken apart here, so that who drops one above has nothing to prove of its parts.
+/// It is taken apart here, so that code that drops one has nothing to prove of its parts.
 impl Drop for Station {
     fn drop(self) {
         let Station {
@@ -68,21 +72,22 @@ impl Drop for Station {
             outcome: _outcome,
             behind: _behind,
             is_as_before: _is_as_before,
-            nobody: _nobody,
+            outlook: _outlook,
             jobs: _jobs,
             view: _view,
+            restless: _restless,
             happened: _happened,
         } = self;
     }
 }
 
-/// How an instruction goes while jobs run that nobody commits.
+/// The trial of an instruction while jobs run that nobody commits.
 #[derive(Drop)]
 pub struct JobsRun {
-    /// How many jobs run.
+    /// The number of jobs that run.
     pub jobs: u64,
     /// The process that it waits for, if it waits.
     pub waits_for: Option<u64>,
-    /// What it comes to; where it waits, once that is given up.
+    /// Its result; if it waits, the result after the wait is given up.
     pub outcome: Outcome,
 }

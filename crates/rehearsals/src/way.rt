@@ -1,29 +1,29 @@
-// What was seen on a way, and of a whole upgrade.
+// The records of a way and of a whole upgrade.
 ghost use Rattle.std.specs.Prelude.{◌≡◌};
 ghost use Rattle.rehearsals.specs.Observing.{before_of, happened_before, happened_last};
 ghost use Rattle.rehearsals.specs.Ways.{has_failed, is_down, is_finished, would_go};
 
 use crate::happening::Happening;
 use crate::station::Station;
-use erl_term::Atom;
+use erl_term::{Atom, Term};
+use node_questions::Difference;
 use node_types::Refusal;
 use node_views::NodeView;
 use values::Row;
 
-/// What was seen on one way, up or down.
+/// The record of one way, up or down.
 pub struct Way {
     /// Why the install was refused, if it was.
     pub refusal: Option<Refusal>,
-    /// The node where the script begins.
+    /// The node at which the script begins.
     pub begun: NodeView,
-    /// What was seen of the instructions, in order, and last of the end.
+    /// The records of the instructions, in order, and last that of the end.
     pub stations: Vec<Station>,
-    /// Each module with old code and each process that still uses it, when nothing more was made of the script; none where
-    /// the install was refused.
+    /// Each module with old code and each process that still uses it at the end of the way; none if the install was refused.
     pub lingering: Row<(Atom, u64)>,
 }
 
-/// It is taken apart here, so that who drops one above has nothing to prove of its parts.
+/// It is taken apart here, so that code that drops one has nothing to prove of its parts.
 impl Drop for Way {
     fn drop(self) {
         let Way {
@@ -36,7 +36,7 @@ impl Drop for Way {
 }
 
 impl Way {
-    /// The node before the instruction at an index.
+    /// Returns the node before the instruction at an index.
     pub fn before(&self, index: usize) -> &NodeView
         ensures { result.now ≡ before_of self.now index }
     {
@@ -49,7 +49,8 @@ impl Way {
         }
     }
 
-    /// Returns what happened last before the instruction at an index: with the one before it, or this if there is none.
+    /// Returns what happened last before the instruction at an index: with the instruction before it, or `first` if there is
+    /// none.
     pub fn happened_before<'a>(&'a self, index: usize, first: &'a [Happening]) -> &'a [Happening]
         ensures { result.now ≡ happened_before first.now self.now index }
     {
@@ -62,14 +63,14 @@ impl Way {
         }
     }
 
-    /// Returns what happened last on the way: with its last instruction, or this if there is none.
+    /// Returns what happened last on the way: with its last instruction, or `first` if there is none.
     pub fn happened_last<'a>(&'a self, first: &'a [Happening]) -> &'a [Happening]
         ensures { result.now ≡ happened_last first.now self.now }
     {
         self.happened_before(self.stations.len(), first)
     }
 
-    /// Whether the script has come to its end.
+    /// Returns whether the script has reached its end.
     pub fn is_finished(&self) -> bool
         ensures { result ≡ is_finished self.now }
     {
@@ -80,7 +81,7 @@ impl Way {
     }
 }
 
-/// Whether there was a way down, and it has come to its end.
+/// Returns whether there was a way down, and it has reached its end.
 pub fn is_down(down: &Option<Way>) -> bool
     ensures { result ≡ is_down down.now }
 {
@@ -90,19 +91,19 @@ pub fn is_down(down: &Option<Way>) -> bool
     }
 }
 
-/// What was seen where both ways were gone once more, without traffic.
+/// The result of running both ways once more, without traffic.
 #[derive(Drop)]
 pub enum Returned {
-    /// They were not, for with traffic they had not come to their ends.
+    /// They were not run, for with traffic they had not reached their ends.
     Untried,
-    /// One of them has not come to its end.
+    /// One of them has not reached its end.
     Failed,
-    /// The node behind both.
+    /// The node after both.
     Behind(NodeView),
 }
 
 impl Returned {
-    /// Whether one of the ways has not come to its end.
+    /// Returns whether one of the ways has not reached its end.
     pub fn has_failed(&self) -> bool
         ensures { result ≡ has_failed self.now }
     {
@@ -110,29 +111,48 @@ impl Returned {
     }
 }
 
-/// What was seen of an upgrade that was rehearsed.
+/// The result of booting the release that is installed on a node of its own.
+#[derive(Drop)]
+pub enum Boot {
+    /// An application doesn't start.
+    Fails {
+        /// The application.
+        app: Atom,
+        /// The reason: `{already_started,App}`, `{bad_init,V}` or `{start_failed,Id,R}`.
+        reason: Term,
+    },
+    /// It boots. The way up has not reached its end, so there is nothing to compare with it.
+    Boots,
+    /// It boots, and the node after the way up differs from it in these.
+    Compared(Vec<Difference>),
+}
+
+/// The record of a rehearsed upgrade.
 pub struct Rehearsal {
-    /// What the traffic before the way up has brought about, an item for each event.
+    /// What the traffic before the way up caused, an item for each event.
     pub happened: Row<Happening>,
-    /// The node before the way up, behind the traffic.
+    /// The node before the way up, after the traffic.
     pub before: NodeView,
     /// The way up.
     pub up: Way,
-    /// The way down, where the way up came to its end.
+    /// The result of booting the release that is installed.
+    pub boot: Boot,
+    /// The way down, if the way up reached its end.
     pub down: Option<Way>,
-    /// Whether the node was as before once all was undone.
+    /// Whether the node was as before after all was undone.
     pub is_as_before: bool,
-    /// What was seen of both ways without traffic.
+    /// The result of both ways without traffic.
     pub returned: Returned,
 }
 
-/// It is taken apart here, so that who drops one above has nothing to prove of its parts.
+/// It is taken apart here, so that code that drops one has nothing to prove of its parts.
 impl Drop for Rehearsal {
     fn drop(self) {
         let Rehearsal {
             happened: _happened,
             before: _before,
             up: _up,
+            boot: _boot,
             down: _down,
             is_as_before: _is_as_before,
             returned: _returned,
@@ -141,7 +161,7 @@ impl Drop for Rehearsal {
 }
 
 impl Rehearsal {
-    /// Whether the upgrade would go up and down without a failure, with the traffic and without.
+    /// Returns whether the upgrade would go up and down without a failure, with the traffic and without.
     pub fn would_go(&self) -> bool
         ensures { result ≡ would_go self.now }
     {

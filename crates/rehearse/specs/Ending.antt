@@ -1,4 +1,4 @@
--- With which status the program ends.
+-- The status of the program.
 use Rattle.std.specs.Prelude.{ℕ, Result, Ok, Err}
 use Rattle.std.specs.IoError.{error_kind}
 use Rattle.std.specs.declared.io.ErrorKind.{ErrorKind}
@@ -18,7 +18,7 @@ use Rattle.relup_make.specs.declared.error.MakeError.TheVariants as making
 use Rattle.upgrade_rehearsal.specs.declared.halting.Fault.{Fault as RehearsalFault}
 use Rattle.upgrade_rehearsal.specs.declared.halting.Fault.TheVariants as rehearsing
 
--- A lack of memory is never told as a fault of files, which have status 3: it has status 1.
+-- A failed allocation is never reported as a fault of files, which has status 3: it has status 1.
 
 abbrev pub status_of_unread : ErrorKind → ℕ
 status_of_unread OutOfMemory = 1
@@ -55,16 +55,17 @@ status_of_rehearsing (rehearsing.Halted why) = 1
 abbrev pub status_of_fault : Fault → ℕ
 status_of_fault (fault.CommandLine words) = status_of_words words
 status_of_fault fault.SameVersion = 2
+status_of_fault fault.SeveralVersions = 2
 status_of_fault (fault.UnknownKind word) = 2
 status_of_fault (fault.NoRandomBytes error) = 1
 status_of_fault (fault.Files error) = status_of_tree error
 status_of_fault (fault.TrafficUnread error) = status_of_unread (error_kind error)
 status_of_fault (fault.Traffic it) = status_of_traffic it.error
 status_of_fault (fault.Releases unread) = 3
-status_of_fault (fault.NoRelup why) = status_of_making why
+status_of_fault (fault.NoRelup why text) = status_of_making why
 status_of_fault (fault.Rehearsal why) = status_of_rehearsing why
 status_of_fault (fault.Output error) = 1
-status_of_fault (fault.Page path error) = 1
+status_of_fault (fault.File path error) = 1
 status_of_fault (fault.Memory error) = 1
 
 -- 0 if the upgrade goes up and down and nothing is found that isn't allowed, 4 if something is, 1 if it doesn't go
@@ -73,3 +74,13 @@ status_of (Ok Goes) = 0
 status_of (Ok HasFindings) = 4
 status_of (Ok Fails) = 1
 status_of (Err why) = status_of_fault why
+
+-- the worse of two ends
+abbrev pub worse : End → End → End
+worse Goes Goes = Goes
+worse Goes HasFindings = HasFindings
+worse Goes Fails = Fails
+worse HasFindings Goes = HasFindings
+worse HasFindings HasFindings = HasFindings
+worse HasFindings Fails = Fails
+worse Fails other = Fails

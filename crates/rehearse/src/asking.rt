@@ -1,20 +1,24 @@
-// What the command line asks for, read.
+// Reading what the command line asks for.
 ghost use Rattle.std.specs.Prelude.{◌≡◌, length, IfOk};
 
+use crate::appups::place_of;
 use crate::ending::Fault;
 use client_traffic::read_traffic;
 use file_tree::read_tree;
 use rehearsal_report::Kind;
 use rehearse_options::Options;
 use release_files::Files;
-use std::alloc::Global;
+use relup_make::MakeError;
+use std::alloc::{AllocError, Global};
 use std::fs;
 use std::hash::RandomState;
 use std::rt::Runtime;
 use upgrade_files::{Chosen, choose, read_both};
 use upgrade_rehearsal::Arrival;
+use values::Duplicate;
 
-/// What is asked for: how the one release is reached from the other, what clients send meanwhile, and what may be found.
+/// What the command line asks for: the releases and the scripts between them, what clients send meanwhile, and what may be
+/// found.
 #[derive(Drop)]
 pub struct Asked {
     /// The releases, and the scripts.
@@ -25,24 +29,37 @@ pub struct Asked {
     pub allowed: Vec<Kind>,
 }
 
-/// Reads the releases and the traffic.
+/// Returns the versions of the releases that are left: FROM is one, or several that are separated by commas.
 ///
 /// # Errors
 ///
-/// What is amiss with the command line comes first, then that the files or the traffic can't be read, and then what is amiss with
-/// the releases.
+/// `AllocError` if an allocation fails.
+pub fn versions_of(alloc: Global, from: &str) -> Result<Vec<&str>, AllocError> {
+    let mut versions = Vec::new(alloc);
+    for version in from.split(',') {
+        versions.push(version)?;
+    }
+    Ok(versions)
+}
+
+/// Reads the releases and the traffic, with this version of the release that is left.
+///
+/// # Errors
+///
+/// Faults of the command line come first, then that the files or the traffic can't be read, and then faults of the releases.
 pub fn read_asked<R: Runtime + AllocGlobal>(
     rt: &R,
     hashing: RandomState,
     options: &Options,
+    from: &str,
 ) -> Result<Asked, Fault> {
     let allowed = kinds_of(rt.alloc(), options.allow.as_slice())?;
-    if options.from == options.to {
+    if from == options.to.as_str() {
         return Err(Fault::SameVersion);
     }
     let files = read_tree(rt, hashing, options.root.as_str())?;
     let traffic = traffic_of(rt, options)?;
-    let chosen = chosen_of(rt.alloc(), files, options)?;
+    let chosen = chosen_of(rt.alloc(), files, from, options.to.as_str())?;
     Ok(Asked {
         chosen,
         traffic,
@@ -50,7 +67,7 @@ pub fn read_asked<R: Runtime + AllocGlobal>(
     })
 }
 
-/// Returns the kinds that words name, one each.
+/// Returns the kinds that words name, one for each word.
 fn kinds_of(alloc: Global, words: &[String]) -> Result<Vec<Kind>, Fault>
     ensures { IfOk result (λ kinds. length kinds.items ≡ length words.now) }
 {
@@ -69,10 +86,18 @@ fn kind_of(alloc: Global, word: &str) -> Result<Kind, Fault> {
     }
 }
 
-/// Returns the releases of the versions that are named, and how the second is reached.
-fn chosen_of(alloc: Global, files: Files, options: &Options) -> Result<Chosen, Fault> {
-    let both = read_both(alloc, files, options.from.as_str(), options.to.as_str())?;
-    Ok(choose(alloc, both.from, both.to)?)
+/// Returns the releases of these versions, and the scripts between them.
+fn chosen_of(alloc: Global, files: Files, from: &str, to: &str) -> Result<Chosen, Fault> {
+    let both = read_both(alloc, files, from, to)?;
+    let to = both.to.copy(alloc)?;
+    match choose(alloc, both.from, both.to) {
+        Ok(chosen) => Ok(chosen),
+        Err(MakeError::Memory) => Err(Fault::Memory(AllocError)),
+        Err(why) => {
+            let place = place_of(alloc, &to, &why)?;
+            Err(Fault::NoRelup(why, place))
+        }
+    }
 }
 
 /// Returns the traffic of a file, if one is named.

@@ -1,34 +1,34 @@
-// How far a rehearsal has come, on a terminal.
+// The progress of a rehearsal, on a terminal.
 use std::fmt;
 use std::rt::Runtime;
 use std::time::{Duration, Instant};
 use upgrade_rehearsal::Watch;
 
-/// How many marks a bar has.
+/// The number of marks in a bar.
 const MARKS: u64 = 40;
 
-/// For how many seconds a rehearsal goes on before a bar is shown.
+/// The number of seconds that a rehearsal takes before a bar is shown.
 const PATIENCE: u64 = 1;
 
-/// A bar of progress on the standard error. It is shown where a rehearsal takes over a second; what can't be written of it is
-/// left out.
+/// A progress bar on the standard error. It is shown if a rehearsal takes over a second; what can't be written of it is left
+/// out.
 #[derive(Drop)]
 pub struct Bar<'a, R: Runtime> {
     rt: &'a R,
-    /// When the rehearsal began; `None` where no bar is to be shown.
+    /// The time at which the rehearsal began; `None` if no bar is to be shown.
     begun: Option<Instant>,
-    /// How many instructions there are.
+    /// The number of instructions.
     all: u64,
-    /// How many of them have been gone through.
+    /// The number of instructions that are done.
     gone: u64,
-    /// How many marks are shown, if any are.
+    /// The number of marks that are shown, if any are.
     shown: Option<u64>,
 }
 
 /// The marks of a bar.
 #[derive(Clone, Copy, Drop)]
 struct Marks {
-    /// How many of them are filled.
+    /// The number of filled marks.
     filled: u64,
 }
 
@@ -43,7 +43,7 @@ impl fmt::Display for Marks {
 }
 
 impl<'a, R: Runtime> Bar<'a, R> {
-    /// A bar of a rehearsal that begins, of so many instructions; none is shown but on a terminal.
+    /// Returns a bar for a rehearsal that begins, with so many instructions; it is shown only on a terminal.
     pub fn new(rt: &'a R, is_terminal: bool, all: u64) -> Bar<'a, R> {
         let begun = if is_terminal {
             Instant::now(rt).ok()
@@ -59,7 +59,7 @@ impl<'a, R: Runtime> Bar<'a, R> {
         }
     }
 
-    /// Whether the rehearsal has taken so long that a bar is due.
+    /// Returns whether the rehearsal has taken so long that a bar is due.
     fn is_due(&self) -> bool {
         match &self.begun {
             Some(begun) => begun
@@ -69,14 +69,14 @@ impl<'a, R: Runtime> Bar<'a, R> {
         }
     }
 
-    /// How many marks are filled.
+    /// Returns the number of filled marks.
     fn filled(&self) -> u64 {
         let gone = u128::from(self.gone.min(self.all));
         let marks = gone * u128::from(MARKS) / u128::from(self.all.max(1));
         u64::try_from(marks).unwrap_or(MARKS)
     }
 
-    /// Takes the bar away, if one is shown.
+    /// Removes the bar, if one is shown.
     pub fn clear(self) {
         if self.shown.is_some() {
             let _ = self.rt.eprint("\r\u{1b}[K");

@@ -3,7 +3,7 @@ ghost use Rattle.std.specs.Prelude.{◌≡◌};
 ghost use Rattle.std.specs.Process.{exit_status};
 ghost use Rattle.std.specs.IoError.{error_kind};
 ghost use Rattle.rehearse.specs.Ending.{status_of, status_of_fault, status_of_making, status_of_rehearsing, status_of_traffic};
-ghost use Rattle.rehearse.specs.Ending.{status_of_tree, status_of_unread};
+ghost use Rattle.rehearse.specs.Ending.{status_of_tree, status_of_unread, worse};
 
 use client_traffic::{TrafficError, TrafficFault};
 use file_tree::TreeError;
@@ -34,9 +34,12 @@ pub enum Fault {
     /// The command line is bad.
     #[error(transparent)]
     CommandLine(#[from] WordsError),
-    /// FROM and TO are one version.
+    /// FROM and TO are the same version.
     #[error("FROM and TO are one version")]
     SameVersion,
+    /// A relup, a page or JSON is asked for, and FROM names several releases.
+    #[error("--relup, --html and --json take one FROM")]
+    SeveralVersions,
     /// This word is no kind of findings.
     #[error("{0} is no kind of findings")]
     UnknownKind(String),
@@ -55,19 +58,19 @@ pub enum Fault {
     /// The files are no releases.
     #[error("the files are no releases")]
     Releases(UnreadFaults),
-    /// No relup can be made.
-    #[error("no relup can be made: {0}")]
-    NoRelup(MakeError),
-    /// The rehearsal has no end.
+    /// No relup can be made, for this reason; and a note on it.
+    #[error("no relup can be made: {0}{1}")]
+    NoRelup(MakeError, String),
+    /// The rehearsal did not reach its end.
     #[error("{0}")]
     Rehearsal(#[from] RehearsalFault),
     /// The report cannot be written.
     #[error("cannot write the output: {0}")]
     Output(#[from] io::Error),
-    /// The page cannot be written into this file.
-    #[error("cannot write the page {0}: {1}")]
-    Page(String, io::Error),
-    /// Memory was refused.
+    /// The page or the JSON cannot be written into this file.
+    #[error("cannot write {0}: {1}")]
+    File(String, io::Error),
+    /// An allocation failed.
     #[error("out of memory")]
     Memory(#[from(alloc)] AllocError),
 }
@@ -81,19 +84,21 @@ impl From<Unread> for Fault {
     }
 }
 
-impl From<MakeError> for Fault {
-    fn from(error: MakeError) -> Fault {
-        match error {
-            MakeError::Memory => Fault::Memory(AllocError),
-            why => Fault::NoRelup(why),
-        }
-    }
-}
-
-/// As it is displayed.
+/// Displays it as `Display` does.
 impl fmt::Debug for Fault {
     fn fmt<W: fmt::Write>(&self, f: &mut fmt::Formatter<W>) -> fmt::Result {
         write!(f, "{self}")
+    }
+}
+
+/// Returns the worse of two ends: one that fails, else one with findings, else one that goes.
+pub fn worse(one: End, other: End) -> End
+    ensures { result ≡ worse one other }
+{
+    match (one, other) {
+        (End::Fails, _) | (_, End::Fails) => End::Fails,
+        (End::HasFindings, _) | (_, End::HasFindings) => End::HasFindings,
+        (End::Goes, End::Goes) => End::Goes,
     }
 }
 
@@ -104,8 +109,8 @@ pub fn exit_code(end: &Result<End, Fault>) -> ExitCode
     ExitCode::from(status(end))
 }
 
-/// Returns the status that the program ends with: 0 if the upgrade goes up and down and nothing is found that isn't allowed, 4 if
-/// something is, and 1 if it fails; after a fault that of the fault.
+/// Returns the status of the program: 0 if the upgrade goes up and down and nothing is found that isn't allowed, 4 if something
+/// is, and 1 if it fails; after a fault the status of the fault.
 fn status(end: &Result<End, Fault>) -> u8
     ensures { result ≡ status_of end.now }
 {
@@ -117,21 +122,21 @@ fn status(end: &Result<End, Fault>) -> u8
     }
 }
 
-/// Returns the status after a fault: 2 after a bad command line, 3 if the files are at fault, and 1 if the system is, or memory
-/// is refused.
+/// Returns the status after a fault: 2 after a bad command line, 3 if the files are at fault, and 1 if the system is, or if an
+/// allocation fails.
 fn fault_status(fault: &Fault) -> u8
     ensures { result ≡ status_of_fault fault.now }
 {
     match fault {
         Fault::CommandLine(words) => words.status(),
-        Fault::SameVersion | Fault::UnknownKind(_) => 2,
+        Fault::SameVersion | Fault::SeveralVersions | Fault::UnknownKind(_) => 2,
         Fault::Files(error) => tree_status(error),
         Fault::TrafficUnread(error) => unread_status(error),
         Fault::Traffic(fault) => traffic_status(fault.error),
         Fault::Releases(_) => 3,
-        Fault::NoRelup(error) => making_status(error),
+        Fault::NoRelup(error, _) => making_status(error),
         Fault::Rehearsal(fault) => rehearsing_status(fault),
-        Fault::NoRandomBytes(_) | Fault::Output(_) | Fault::Page(_, _) | Fault::Memory(_) => 1,
+        Fault::NoRandomBytes(_) | Fault::Output(_) | Fault::File(_, _) | Fault::Memory(_) => 1,
     }
 }
 
@@ -180,13 +185,13 @@ fn making_status(error: &MakeError) -> u8
     }
 }
 
-/// Returns the status if a rehearsal has no end.
+/// Returns the status if a rehearsal didn't reach its end.
 fn rehearsing_status(fault: &RehearsalFault) -> u8
     ensures { result ≡ status_of_rehearsing fault.now }
 {
     match fault {
         RehearsalFault::Boot(BootError::NotStarted { .. }) => 3,
         RehearsalFault::Boot(BootError::Memory) => 1,
-        RehearsalFault::Halted(Halt::Endless(_) | Halt::Full | Halt::Memory(_)) => 1,
+        RehearsalFault::Halted(Halt::Full | Halt::Memory(_)) => 1,
     }
 }

@@ -14,22 +14,22 @@ const OUTPUT: &str = "/dev/stdout";
 /// How many links are followed to a file that isn't there yet.
 const MOST_LINKS: usize = 40;
 
-/// Where a page is written.
+/// The place at which a page is written.
 #[derive(Drop)]
 enum Place {
     /// On the standard output.
     Output,
-    /// Into what is no file, as a pipe or a terminal.
+    /// Into something that is no file, such as a pipe or a terminal.
     Stream,
     /// In place of a file.
     File(Target),
 }
 
-/// Tries whether a page can be written at a path, and writes nothing there. What is no file is not tried.
+/// Tries whether a page can be written at a path, and writes nothing there. Something that is no file is not tried.
 ///
 /// # Errors
 ///
-/// As the system reports; `IsADirectory` if a folder is there.
+/// As the system reports; `IsADirectory` if a directory is there.
 pub fn try_place<R: Runtime + RandomSource + AllocGlobal>(rt: &R, path: &str) -> io::Result<()> {
     match place_at(rt, path)? {
         Place::Output | Place::Stream => Ok(()),
@@ -37,12 +37,12 @@ pub fn try_place<R: Runtime + RandomSource + AllocGlobal>(rt: &R, path: &str) ->
     }
 }
 
-/// Writes a page at a path. Links are followed. A file is replaced whole, or stays; into anything else, as a pipe or a terminal,
-/// the page is written after what is there.
+/// Writes a page at a path. Links are followed. A file is replaced as a whole, or stays. Into anything else, such as a pipe or a
+/// terminal, the page is written after what is there.
 ///
 /// # Errors
 ///
-/// As the system reports; `IsADirectory` if a folder is there.
+/// As the system reports; `IsADirectory` if a directory is there.
 pub fn write_at<R: Runtime + RandomSource + AllocGlobal>(
     rt: &R,
     path: &str,
@@ -66,13 +66,13 @@ pub fn write_output<R: Runtime>(rt: &R, bytes: &[u8]) -> io::Result<()> {
     writer.flush()
 }
 
-/// Writes into what is at a path, and is no file.
+/// Writes into something at a path that is no file.
 fn write_stream<R: Runtime>(rt: &R, path: &str, bytes: &[u8]) -> io::Result<()> {
     let mut stream = OpenOptions::new().write(true).open(rt, path)?;
     stream.write_all(bytes)
 }
 
-/// Returns the place that a page asked for at a path is written to.
+/// Returns the place at which a page for a path is written.
 fn place_at<R: Runtime + AllocGlobal>(rt: &R, path: &str) -> io::Result<Place> {
     match fs::metadata(rt, path) {
         Ok(found) => place_of(rt, path, &found),
@@ -84,7 +84,7 @@ fn place_at<R: Runtime + AllocGlobal>(rt: &R, path: &str) -> io::Result<Place> {
     }
 }
 
-/// Returns the place that a page is written to if this is found at its path.
+/// Returns the place at which a page is written if this is found at its path.
 fn place_of<R: Runtime + AllocGlobal>(rt: &R, path: &str, found: &Metadata) -> io::Result<Place> {
     if is_output(rt, found) {
         Ok(Place::Output)
@@ -100,7 +100,7 @@ fn place_of<R: Runtime + AllocGlobal>(rt: &R, path: &str, found: &Metadata) -> i
     }
 }
 
-/// Returns whether what is found is the standard output, whatever that is.
+/// Returns whether what is found is the standard output, of any kind.
 fn is_output<R: Runtime>(rt: &R, found: &Metadata) -> bool {
     match fs::metadata(rt, OUTPUT) {
         Ok(output) => output.dev() == found.dev() && output.ino() == found.ino(),
@@ -120,7 +120,7 @@ fn end_of_links<R: Runtime + AllocGlobal>(rt: &R, path: &str) -> io::Result<Path
     Err(io::Error::from(ErrorKind::FilesystemLoop))
 }
 
-/// Returns the path to which a link at a path leads, of which the text is this one.
+/// Returns the path to which a link at a path leads, if the link has this text.
 fn beside<R: AllocGlobal>(rt: &R, link: &PathBuf, text: &PathBuf) -> io::Result<PathBuf> {
     match link.parent() {
         Some(folder) => Ok(folder.join(rt.alloc(), text.as_str())?),

@@ -1,4 +1,4 @@
-// Files that are replaced whole or not at all.
+// Files that are replaced as a whole or not at all.
 use std::fs::{File, OpenFile, Permissions};
 use std::io::Write;
 use std::os::unix::fs::PermissionsExt;
@@ -7,7 +7,7 @@ use std::random::RandomSource;
 use std::rt::Runtime;
 use std::{fs, io};
 
-/// What the name of a file ends with while it is written, before the number that makes it one of its own.
+/// The end of the name of a file while it is written, before the number that makes the name unique.
 const BESIDE: &str = ".rehearse-part-";
 
 /// A file that is to be replaced, or that isn't there yet.
@@ -15,12 +15,12 @@ const BESIDE: &str = ".rehearse-part-";
 pub struct Target {
     /// Its path. It is no link.
     pub path: PathBuf,
-    /// Who may do what with it, as the system numbers that, if it is there.
+    /// Its permissions, as the system numbers them, if it is there.
     pub mode: Option<u32>,
 }
 
-/// Writes a part beside a file, under a name of its own, and gives it the file's name once all of it is written: so the file is
-/// replaced whole, or stays. Its mode is kept.
+/// Writes a part beside a file, under a unique name, and renames it to the file after all of it is written. So the file is
+/// replaced as a whole, or stays. Its mode is kept.
 ///
 /// # Errors
 ///
@@ -56,7 +56,7 @@ pub fn try_replacing<R: Runtime + RandomSource + AllocGlobal>(
     fs::remove_file(rt, part.as_str())
 }
 
-/// Returns the path of a part beside a file, which no other run has.
+/// Returns the path of a part beside a file that no other run has.
 fn part_of<R: RandomSource + AllocGlobal>(rt: &R, target: &Target) -> io::Result<String> {
     let mut bytes = [0u8; 8];
     rt.fill_bytes(&mut bytes)?;
@@ -65,7 +65,7 @@ fn part_of<R: RandomSource + AllocGlobal>(rt: &R, target: &Target) -> io::Result
     Ok(format!(in rt.alloc(); "{path}{BESIDE}{number:016x}")?)
 }
 
-/// Writes all of a file that was just made. Nobody but those who may read the file that it replaces can read it meanwhile.
+/// Writes all of a file that was just created. Meanwhile, only users who may read the file that it replaces can read it.
 fn fill<F: Write + OpenFile + Drop>(
     mut file: F,
     mode: Option<u32>,

@@ -1,16 +1,15 @@
-// What is told of a fault, for the one who is to mend it.
+// Messages about faults, for the reader who is to mend them.
 use crate::ending::Fault;
 use diagnostics::{diagnose, not_started, push_shown};
 use rehearsal_report::KINDS;
 use release_boot::BootError;
 use release_files::{Files, ReleaseFault};
-use relup_make::MakeError;
 use std::alloc::{AllocError, Global};
 use upgrade_files::UnreadFaults;
 use upgrade_rehearsal::Fault as RehearsalFault;
 
-/// Tells a fault on the standard error, a line each; below that of a file stands the line in which the fault is, and a mark
-/// below its place. Where standard error cannot be written, the status alone tells of the fault.
+/// Prints a fault on the standard error, a line each. For a fault in a file, the faulty line is printed below, and a mark below
+/// its place. If the standard error can't be written, only the status shows the fault.
 pub fn tell(rt: HostRuntime, fault: &Fault) {
     let Ok(told) = describe(rt.alloc(), fault) else {
         let _ = eprintln!(rt; "rehearse: out of memory");
@@ -19,7 +18,7 @@ pub fn tell(rt: HostRuntime, fault: &Fault) {
     let _ = eprintln!(rt; "{told}");
 }
 
-/// What is told of a fault.
+/// Returns the message about a fault.
 fn describe(alloc: Global, fault: &Fault) -> Result<String, AllocError> {
     let mut told = String::new(alloc);
     match fault {
@@ -36,19 +35,12 @@ fn describe(alloc: Global, fault: &Fault) -> Result<String, AllocError> {
     Ok(told)
 }
 
-/// Appends what to write so that the fault is mended, if that is known.
+/// Appends what to write to mend the fault, if that is known.
 fn push_help(fault: &Fault, text: &mut String) -> Result<(), AllocError> {
-    let help = match fault {
-        Fault::UnknownKind(_) => return push_kinds(text),
-        Fault::NoRelup(MakeError::NoAppup(_)) => {
-            "; write one for its version V in TO, lib/APP-V/ebin/APP.appup, or write releases/TO/relup"
-        }
-        Fault::NoRelup(MakeError::ErtsChanged | MakeError::BaseChanged(_)) => {
-            "; both .rel must name one version of it"
-        }
-        _ => "",
-    };
-    text.push_str(help)
+    match fault {
+        Fault::UnknownKind(_) => push_kinds(text),
+        _ => Ok(()),
+    }
 }
 
 /// Appends all kinds of findings.
@@ -61,13 +53,13 @@ fn push_kinds(text: &mut String) -> Result<(), AllocError> {
     Ok(())
 }
 
-/// Appends a line of the program's.
+/// Appends a line of the program.
 fn push_line(text: &str, told: &mut String) -> Result<(), AllocError> {
     told.push_str("rehearse: ")?;
     push_shown(text, told)
 }
 
-/// Appends what is told of the files of two releases: each fault, below the one before it.
+/// Appends the messages about the files of two releases: each fault below the one before it.
 fn push_unread(alloc: Global, unread: &UnreadFaults, told: &mut String) -> Result<(), AllocError> {
     for fault in &unread.faults {
         if !told.is_empty() {
@@ -78,7 +70,7 @@ fn push_unread(alloc: Global, unread: &UnreadFaults, told: &mut String) -> Resul
     Ok(())
 }
 
-/// Appends what is told of a file.
+/// Appends the message about a file.
 fn push_fault(
     alloc: Global,
     files: &Files,

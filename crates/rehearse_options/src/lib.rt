@@ -1,9 +1,10 @@
 //! The command line of the program `rehearse`:
-//! `rehearse [--traffic FILE] [--allow KIND] [--quiet] [--html FILE] [--relup] ROOT FROM TO`, `--help` and `--version`.
+//! `rehearse [--traffic FILE] [--allow KIND] [--quiet] [--html FILE] [--json FILE] [--relup] ROOT FROM TO`, `--help` and
+//! `--version`.
 //!
-//! [`read_invocation`] reads the words that the program was started with. No contract says which words are good: that is
-//! [`clap`]'s, and is tried by hand. What is printed of words that are no text is [`program_words`]'. Which words are kinds of
-//! findings is known to the program.
+//! [`read_invocation`] reads the words that the program was started with. No contract says which words are good: [`clap`]
+//! decides that, and it is tried by hand. [`program_words`] decides what is printed of words that are no text. The program
+//! itself knows which words are kinds of findings.
 #![tactic(auto)]
 
 use clap::{Arg, ArgAction, Command};
@@ -17,11 +18,12 @@ const NAME: &str = "rehearse";
 const VERSION: &str = "0.1.0, proved";
 
 const ABOUT: &str =
-    "Rehearses the upgrade of an Erlang/OTP release before it is made, and tells what is likely wrong with it";
+    "Rehearses the upgrade of an Erlang/OTP release before it is made, and prints what is likely wrong with it";
 
 const ROOT_HELP: &str = "The folder with `releases` and `lib`; all files below it are read";
 
-const FROM_HELP: &str = "The version of the release that is left";
+const FROM_HELP: &str =
+    "The version of the release that is left; several with commas between them are rehearsed one after the other";
 
 const TO_HELP: &str = "The version of the release that is installed";
 
@@ -29,12 +31,15 @@ const TRAFFIC_HELP: &str =
     "Play what clients send before it and after each step: each line of FILE is `call NAME TERM`, `cast NAME TERM` or `send NAME TERM`";
 
 const ALLOW_HELP: &str =
-    "Accept findings of KIND: they are told, and the status is as if they weren't; may be given several times";
+    "Accept findings of KIND: they are printed, and don't change the status; may be given several times";
 
 const QUIET_HELP: &str = "Print the verdict and the findings only";
 
 const HTML_HELP: &str =
     "Write the whole report into FILE too, as a page for a browser; what is there is replaced";
+
+const JSON_HELP: &str =
+    "Write the whole report into FILE too, as JSON for a program; what is there is replaced";
 
 const RELUP_HELP: &str =
     "Print the relup by which TO is reached, as a file, and end; it is made of the appups if TO has none for FROM";
@@ -43,10 +48,11 @@ const AFTER_HELP: &str = "What it does:
   It boots FROM on a node of its own, and carries out the upgrade an instruction at a
   time: up to TO, and down again. The traffic, if there is any, is played before it and
   after each instruction. Each instruction is also made to fail on purpose, and undone.
-  Told are the verdict, what was found and what to do about it, the scripts, and what
-  each instruction changes. It writes no file but the one of --html.
+  It prints the verdict, what was found and what to do about it, and what each
+  instruction changes. TO is booted too, and the node after the way up compared
+  with it. It writes no files but those of --html and --json.
 
-Status:
+Status (of several FROM the worst, 1 before 4):
   0  it goes up and down, and nothing is found but what is allowed
   1  it fails: it doesn't go up, or not down again, or not without the traffic; or the
      rehearsal could not be made to its end, or its report not be written
@@ -60,16 +66,35 @@ A KIND of --allow is the word that is printed after a finding, one of these:
   calls_down_before      a call gets an exit reason and no reply, before the upgrade
   unheard_before         a message is sent to a name that nobody has, before the upgrade
   fails_without_traffic  it goes up and down with the traffic, and not without
+  boot_fails             TO doesn't boot
+  applies_nobody         an instruction applies a function that nobody answers
   not_resumed_on_otp     a module is suspended, and OTP never resumes it
   resumes_nobody_on_otp  a module is resumed by another name than it was suspended by
   changes_nobody_on_otp  states change by another name than they were suspended by
   starts_nobody_on_otp   a module is started by another name than it was stopped by
+  suspended_supervisor_on_otp
+                         an instruction fails on OTP, for a supervisor is suspended
+  temporary_on_otp       a temporary child is stopped, which OTP never starts again
+  passed_over_on_otp     a start or apply fails, and OTP goes on
+  points_on_otp          a script has no point of no return, or a second one
+  early_on_otp           processes are suspended or stopped before the point of no return
+  order_on_otp           messages come in another order on OTP
   not_restored           up and down again, a process has another state than before
   vanishes               up and down again, a process is gone
   kills                  a process still uses code that is purged, and is killed
   ends                   a process ends by a message, during the upgrade
   calls_down             a call gets an exit reason and no reply, during the upgrade
   unheard                a message is sent to a name that nobody has any more
+  unanswered             a module calls a function that nobody answers
+  calls_outside          a module calls one that neither release has
+  calls_in_callback       a callback or a loop calls gen_server:call
+  other_state            a state has another shape than after a boot of TO
+  other_children         a child isn't started, or not deleted, as after a boot of TO
+  other_specification    a child has another specification than after a boot of TO
+  other_name             a process has another name than after a boot of TO
+  other_applications     other applications run than after a boot of TO
+  other_code             a module has other code than after a boot of TO
+  restless               a process is never at rest
   lingers                a process uses old code when the script has ended
   suspends_nobody        a module is suspended, and no child has it in its specification
   no_code_change         states are to change, and code_change/3 isn't exported
@@ -89,7 +114,7 @@ Example: go on if nothing is found but that a new application is started:
 pub struct Options {
     /// The folder of the files, as the word stands.
     pub root: String,
-    /// The version of the release that is left, as the word stands.
+    /// The version of the release that is left, or several with commas between them, as the word stands.
     pub from: String,
     /// The version of the release that is installed, as the word stands.
     pub to: String,
@@ -101,6 +126,8 @@ pub struct Options {
     pub quiet: bool,
     /// The file of the page, if one is named.
     pub html: Option<String>,
+    /// The file of the JSON, if one is named.
+    pub json: Option<String>,
     /// Whether the relup alone is to be printed.
     pub relup: bool,
 }
@@ -118,14 +145,14 @@ pub enum Invocation {
 ///
 /// # Errors
 ///
-/// `Words` where the words are not ROOT, FROM and TO, `NotUtf8` where one is not UTF-8, `Unread` where the system does not
-/// give them, `Memory` where memory is refused.
+/// `Words` if the words are not ROOT, FROM and TO, `NotUtf8` if one is not UTF-8, `Unread` if the system does not give them,
+/// `Memory` if an allocation fails.
 pub fn read_invocation<R: Env + AllocGlobal>(rt: &R) -> Result<Invocation, WordsError> {
     let words = read_words(rt)?;
     invocation_of(rt.alloc(), words.as_slice())
 }
 
-/// What the words, from the program's name on, ask for.
+/// Returns what the words, from the program's name on, ask for.
 fn invocation_of(alloc: Global, words: &[String]) -> Result<Invocation, WordsError> {
     match command(alloc)?.try_get_matches_from(words) {
         Ok(matches) => Ok(Invocation::Run(Options {
@@ -136,6 +163,7 @@ fn invocation_of(alloc: Global, words: &[String]) -> Result<Invocation, WordsErr
             allow: all_owned(alloc, matches.get_strs("allow"))?,
             quiet: matches.get_flag("quiet"),
             html: owned_if(alloc, matches.get_str("html"))?,
+            json: owned_if(alloc, matches.get_str("json"))?,
             relup: matches.get_flag("relup"),
         })),
         Err(error) => match asked_text(alloc, &error)? {
@@ -145,7 +173,7 @@ fn invocation_of(alloc: Global, words: &[String]) -> Result<Invocation, WordsErr
     }
 }
 
-/// Why words are no command line, told of the words as they can be shown.
+/// Returns why words are no command line, with the words as they can be shown.
 fn refusal_of(alloc: Global, words: &[String]) -> Result<WordsError, AllocError> {
     let shown = shown_words(alloc, words)?;
     match command(alloc)?.try_get_matches_from(shown.as_slice()) {
@@ -154,12 +182,12 @@ fn refusal_of(alloc: Global, words: &[String]) -> Result<WordsError, AllocError>
     }
 }
 
-/// A copy of a word that the command requires, so that it is there.
+/// Returns a copy of a word that the command requires, so that it is there.
 fn owned(alloc: Global, word: Option<&str>) -> Result<String, AllocError> {
     String::from_str(alloc, word.unwrap_or(""))
 }
 
-/// A copy of a word, if it is there.
+/// Returns a copy of a word, if it is there.
 fn owned_if(alloc: Global, word: Option<&str>) -> Result<Option<String>, AllocError> {
     match word {
         Some(word) => Ok(Some(String::from_str(alloc, word)?)),
@@ -167,7 +195,7 @@ fn owned_if(alloc: Global, word: Option<&str>) -> Result<Option<String>, AllocEr
     }
 }
 
-/// Copies of words, if they are there.
+/// Returns copies of words, if they are there.
 fn all_owned(alloc: Global, words: Option<&[&str]>) -> Result<Vec<String>, AllocError> {
     words
         .unwrap_or(&[])
@@ -176,7 +204,7 @@ fn all_owned(alloc: Global, words: Option<&[&str]>) -> Result<Vec<String>, Alloc
         .try_collect(alloc)
 }
 
-/// A word that has to be there.
+/// Returns a word that is required.
 fn required<'a>(alloc: Global, id: &'a str, help: &'a str) -> Arg<'a> {
     Arg::new(alloc, id)
         .required(true)
@@ -184,7 +212,7 @@ fn required<'a>(alloc: Global, id: &'a str, help: &'a str) -> Arg<'a> {
         .help(help)
 }
 
-/// An option with a value.
+/// Returns an option with a value.
 fn valued<'a>(alloc: Global, id: &'a str, name: &'a str, help: &'a str) -> Arg<'a> {
     Arg::new(alloc, id)
         .long(id)
@@ -193,7 +221,7 @@ fn valued<'a>(alloc: Global, id: &'a str, name: &'a str, help: &'a str) -> Arg<'
         .help(help)
 }
 
-/// An option without a value.
+/// Returns an option without a value.
 fn flag<'a>(alloc: Global, id: &'a str, help: &'a str) -> Arg<'a> {
     Arg::new(alloc, id)
         .long(id)
@@ -201,11 +229,12 @@ fn flag<'a>(alloc: Global, id: &'a str, help: &'a str) -> Arg<'a> {
         .help(help)
 }
 
-/// The command line as clap reads it.
+/// Returns the command line as clap reads it.
 fn command<'a>(alloc: Global) -> Result<Command<'a>, AllocError> {
     let allow = valued(alloc, "allow", "KIND", ALLOW_HELP).action(ArgAction::Append);
     let quiet = flag(alloc, "quiet", QUIET_HELP);
     let html = valued(alloc, "html", "FILE", HTML_HELP);
+    let json = valued(alloc, "json", "FILE", JSON_HELP);
     Command::new(alloc, NAME)
         .bin_name(NAME)?
         .version(VERSION)
@@ -215,6 +244,7 @@ fn command<'a>(alloc: Global) -> Result<Command<'a>, AllocError> {
         .arg(allow.conflicts_with("relup")?)?
         .arg(quiet.conflicts_with("relup")?)?
         .arg(html.conflicts_with("relup")?)?
+        .arg(json.conflicts_with("relup")?)?
         .arg(flag(alloc, "relup", RELUP_HELP))?
         .arg(required(alloc, "ROOT", ROOT_HELP))?
         .arg(required(alloc, "FROM", FROM_HELP))?

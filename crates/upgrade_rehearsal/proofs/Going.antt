@@ -1,11 +1,11 @@
--- How a journal goes on and back, step by step.
+-- How a journal is continued and undone, step by step.
 use Rattle.std.proofs.Common.{◌≡◌, ◌∙◌, ℕ, ◌==◌, ◌+◌, Bool, true, false, if◌then◌else◌, List, [], ◌∷◌, ◌++◌, Option, None, Some}
 use Rattle.std.proofs.Common.{refl, sym, ap, option_map}
 use Rattle.std.proofs.lemmas.List.{append-nil, append_assoc}
 use Rattle.undo_journal.specs.Timeline.{Station, Timeline, appended, cut_to, here, kept_to, newest}
 use Rattle.upgrade_rehearsal.specs.Going.{Extends, IsBack}
 
--- a journal stands at the station that was appended last
+-- the newest station of a journal is the one that was appended last
 newest_behind : {S N : Type 0} (s : Station S N) (ss : List (Station S N)) (x : Station S N) → newest s (ss ++ x ∷ []) ≡ x
 newest_behind s [] x = refl
 newest_behind s (t ∷ ts) x = newest_behind t ts x
@@ -32,11 +32,11 @@ module _ {S N : Type 0} where
     later = other.later ∙ ap (λ ss. ss ++ other.more) one.later ∙ append_assoc t.later one.more other.more;
   }
 
-  -- where a journal is back, it stands where it stood
+  -- if a journal is back, it is at the station where it was
   pub here_again : (t u : Timeline S N) → IsBack t u → here u ≡ here t
   here_again t u back = ap (λ s. newest s u.later) back.first ∙ ap (λ ss. newest t.first ss) back.later
 
-  -- and what comes then comes behind what there was
+  -- and what comes then is appended to what there was
   pub goes_from : (t u v : Timeline S N) → IsBack t u → Extends u v → Extends t v
   goes_from t u v back on = record {
     first = on.first ∙ back.first;
@@ -47,7 +47,7 @@ module _ {S N : Type 0} where
   pub back_both : (t u v : Timeline S N) → IsBack t u → IsBack u v → IsBack t v
   back_both t u v one other = record { first = other.first ∙ one.first; later = other.later ∙ one.later }
 
--- What an undo keeps of stations it keeps also where others have come behind them.
+-- What an undo keeps of stations it also keeps if others were appended to them.
 
 kept_by : {S N : Type 0} (b : Bool) (more kept : List (Station S N)) (o : Option (List (Station S N))) →
     (if b then Some [] else None) ≡ Some kept → (if b then Some [] else o) ≡ Some kept
@@ -79,7 +79,7 @@ cut_whole m t is = by (kept_to m t.first t.later) refl is
         let whole : record { first = t.first; later = kept; last = t.last } ≡ t = cc in
         ap (λ (u : Timeline _ _). Some u.later) whole
 
--- an undo to a mark at which the journal stood, from where it went on to, brings it back
+-- an undo to a mark of the journal's present place brings the journal back from wherever it was continued to
 pub back_to : {S N : Type 0} (m : ℕ) (t u v : Timeline S N) → cut_to m t ≡ Some t → Extends t u → cut_to m u ≡ Some v → IsBack t v
 back_to m t u v at on cut =
     let kept : kept_to m u.first u.later ≡ Some t.later =

@@ -1,4 +1,4 @@
--- How a player goes on and back, step by step.
+-- How a player continues and goes back, step by step.
 use Rattle.std.proofs.Common.{◌≡◌, ◌∙◌, ◌<◌, ◌≤◌, ℕ, ◌+◌, List, [], ◌∷◌, ◌++◌, Some, Result, Ok, Err, OnOk, refl, sym, ap, subst, length, take, get_or}
 use Rattle.std.proofs.lemmas.List.{append-nil, append_assoc, take_all, take_more}
 use Rattle.node_core.specs.Node.{NodeState}
@@ -16,18 +16,18 @@ use Rattle.upgrade_rehearsal.specs.declared.player.Player.{Player}
 abbrev stage : NodeState → ℕ → Stage
 stage node arrivals = record { node = node; arrivals = arrivals }
 
--- where two journals and counts are alike, so are the stages
+-- if two journals and counts are the same, so are the stages
 pub one_stage : (old new : Player) → new.journal ≡ old.journal → new.arrivals ≡ old.arrivals → stage_of new ≡ stage_of old
 one_stage old new journal arrivals =
     ap (λ j. stage (here j).node new.arrivals) journal ∙ ap (λ k. stage (here old.journal).node k) arrivals
 
--- a player that is back stands where it stood
+-- a player that is back is at the stage where it was
 pub stage_again : (old new : Player) → IsBackAt old new → stage_of new ≡ stage_of old
 stage_again old new back =
     ap (λ s. stage s.node new.arrivals) (here_again old.journal new.journal back.journal)
     ∙ ap (λ k. stage (here old.journal).node k) back.arrivals
 
--- It goes back to a bookmark from where it went on to, and the bookmark names the place again.
+-- It goes back to a bookmark from where it continued to, and the bookmark names the place again.
 
 pub back_at : (b : Bookmark) (old between new : Player) → IsBookmark b old → Extends old.journal between.journal →
     cut_to b.mark between.journal ≡ Some new.journal → new.arrivals ≡ b.arrivals → IsBackAt old new
@@ -58,7 +58,7 @@ back_same old between new one journal arrivals = record {
   arrivals = arrivals ∙ one.arrivals;
 }
 
--- the same scenes by other words
+-- the same scenes, defined otherwise
 pub leads_as : (S T : Scene) (old new : Player) →
     ((sent : List Happening) → S (stage_of old) sent (stage_of new) → T (stage_of old) sent (stage_of new)) → Leads S old new →
     Leads T old new
@@ -81,11 +81,11 @@ leads_then S T old between new one other = record {
 }
 
 module _ {X : Type 0} (R : X → Scene) where
-  -- nothing has had its turn
+  -- no item is done
   pub leads_nowhere : (p : Player) → Leads (InTurn R []) p p
   leads_nowhere p = record { journal = stays p.journal; sent = []; scene = (refl, refl); kept = sym (append-nil p.sent.items) }
 
-  -- one more has had its turn
+  -- one more item is done
   pub leads_once_more : (xs : List X) (x : X) (old between new : Player) → Leads (InTurn R xs) old between →
       Leads (R x) between new → Leads (InTurn R (xs ++ x ∷ [])) old new
   leads_once_more xs x old between new so_far one = record {
@@ -95,7 +95,7 @@ module _ {X : Type 0} (R : X → Scene) where
     kept = one.kept ∙ ap (λ ms. ms ++ one.sent) so_far.kept ∙ append_assoc old.sent.items so_far.sent one.sent;
   }
 
-  -- the next of a list has had its turn, and behind the last one all have
+  -- the next item of a list is done, and after the last one all are
   pub leads_next : (xs : List X) (n : ℕ) (x : X) (old between new : Player) → n < length xs → x ≡ get_or xs n x →
       Leads (InTurn R (take n xs)) old between → Leads (R x) between new → Leads (InTurn R (take (n + 1) xs)) old new
   leads_next xs n x old between new within item so_far one =
@@ -106,14 +106,14 @@ module _ {X : Type 0} (R : X → Scene) where
       Leads (InTurn R xs) old new
   leads_all xs n old new past so_far = subst (λ ys. Leads (InTurn R ys) old new) (take_all n xs past) so_far
 
--- if nothing is different but what is kept of events, it goes on as before
+-- if only what is kept of events differs, it continues as before
 pub goes_same : (old new : Player) → new.journal ≡ old.journal → Extends old.journal new.journal
 goes_same old new same = subst (λ j. Extends old.journal j) (sym same) (stays old.journal)
 
 pub goes_behind : (old between new : Player) → IsBackAt old between → Extends between.journal new.journal → Extends old.journal new.journal
 goes_behind old between new back on = goes_from old.journal between.journal new.journal back.journal on
 
--- what leads on where a call gives no error
+-- what continues if a call gives no error
 pub on_ok : {T E : Type 0} (r : Result T E) (P Q : Type 0) → (P → Q) → OnOk r P → OnOk r Q
 on_ok (Ok x) P Q then p = then p
 on_ok (Err e) P Q then p = tt

@@ -1,4 +1,4 @@
--- What comes of events that are performed.
+-- What performed events cause.
 use Rattle.std.proofs.Common.{◌≡◌, ◌∙◌, ℕ, ◌+◌, true, false, [], ◌∷◌, Option, None, Some, is_some, Result, Ok, Err, OnOk, refl, sym, ap, subst}
 use Rattle.erl_semantics.specs.declared.jobs.Done.{Done}
 use Rattle.erl_semantics.specs.declared.jobs.Job.{Job}
@@ -28,7 +28,7 @@ use Rattle.upgrade_rehearsal.specs.Sequences.{Then}
 use Rattle.upgrade_rehearsal.specs.declared.arrival.Arrival.{Arrival}
 use Rattle.upgrade_rehearsal.specs.declared.player.Player.{Player}
 
--- the player goes on by the event
+-- the player continues by the event
 pub performed_occurs : (old new : Player) (e : Event) (done : Result Answer Refusal) → Performed old e done new →
     Leads (Occurs e done) old new
 performed_occurs old new e (Ok told) w = record {
@@ -47,13 +47,13 @@ performed_occurs old new e (Err why) w = record {
   kept = w.2;
 }
 
--- whatever it comes to
+-- with any result
 pub performed_on : (old new : Player) (e : Event) (done : Result Answer Refusal) → Performed old e done new →
     Leads (Undergoes e) old new
 performed_on old new e done w =
     leads_as (Occurs e done) (Undergoes e) old new (λ sent occurs. (done, occurs)) (performed_occurs old new e done w)
 
--- and to what
+-- and with which outcome
 pub performed_comes : (old new : Player) (e : Event) (done : Result Answer Refusal) (told : Outcome) → told ≡ advance_outcome done →
     Performed old e done new → Leads (ComesTo e told) old new
 performed_comes old new e done told tells w = leads_as (Occurs e done) (ComesTo e told) old new
@@ -98,7 +98,7 @@ pub gives_job : (done : Result Answer Refusal) (job : Job) → job_in done ≡ S
 gives_job (Ok told) job is = ap Ok (gives_by told job is)
 gives_job (Err why) job is = let clash : None ≡ Some job = is in cc
 
--- A client's message comes.
+-- A client's message is sent.
 pub comes_by : (a : Arrival) (old between : Player) (number : ℕ) (e : Event) → e ≡ event_of a number →
     number ≡ old.arrivals + 1 → Leads (Undergoes e) old between → Leads (Comes a) old (record between { arrivals = number })
 comes_by a old between number e is next l = record {
@@ -113,7 +113,7 @@ comes_by a old between number e is next l = record {
   kept = l.kept;
 }
 
--- A process has taken a message, and what it has run is committed.
+-- A process has taken a message, and the result of running it is committed.
 
 pub runs_by : {T E : Type 0} (r : Result T E) (job : Job) (done : Done) (old new : Player) → done.job ≡ job →
     OnOk r (Leads (Undergoes (Commit done)) old new) → OnOk r (Leads (Runs job) old new)
@@ -131,7 +131,7 @@ served_by r pid job done old between new gives w on =
     leads_as (Then Takes (Runs job)) (IsServed pid) old new (λ sent both. record { job = job; serves = both })
     (leads_then Takes (Runs job) old between new (performed_occurs old between (Take pid) (Ok (answer.Job job)) takes) l)) on
 
--- The next one is told of the node where the player stands.
+-- The next process is that of the node in the player's present state.
 pub is_next : (p : Player) (n : NodeState) (o : Option ℕ) (pid : ℕ) → n ≡ (here p.journal).node →
     IsNextRunnable 0 o n.processes → o ≡ Some pid → IsNext pid (stage_of p)
 is_next p n o pid at told is =

@@ -4,7 +4,7 @@ use Rattle.std.proofs.lemmas.List.{append-nil, append_assoc}
 use Rattle.upgrade_rehearsal.specs.Sequences.{Goes, InTurn}
 
 module _ {S M X : Type 0} (R : X → Goes S M) where
-  -- once more behind nothing
+  -- once more after nothing
   alone : (x : X) (old between new : S) (sent more : List M) → (between ≡ old) × (sent ≡ []) → R x between more new →
       InTurn R (x ∷ []) old (sent ++ more) new
   alone x old between new sent more none one = record {

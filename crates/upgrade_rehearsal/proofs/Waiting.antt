@@ -15,7 +15,7 @@ use Rattle.upgrade_rehearsal.specs.Seen.{ComesTo, GoesWithJobs, advance_outcome,
 use Rattle.upgrade_rehearsal.specs.Stages.{Occurs, Stage}
 use Rattle.upgrade_rehearsal.specs.declared.player.Player.{Player}
 
--- Who is waited for is told by one refusal.
+-- The process that is waited for is given by one refusal.
 
 busy_by : (why : Refusal) (pid : ℕ) → busy_in why ≡ Some pid → why ≡ refusal.Busy pid
 busy_by (refusal.OfProcesses e) pid is = let clash : None ≡ Some pid = is in cc
@@ -35,7 +35,7 @@ waits_by (outcome.Recovered reason) pid is = let clash : None ≡ Some pid = is 
 waits_by (outcome.Restarted reason) pid is = let clash : None ≡ Some pid = is in cc
 waits_by (outcome.Refused why) pid is = ap outcome.Refused (busy_by why pid is)
 
--- no answer is told as a refusal
+-- no answer has the outcome of a refusal
 not_told : (told : Answer) (why : Refusal) → outcome.Refused why ≡ outcome_by told → ⊥
 not_told (answer.Job job) why is = let clash : outcome.Refused why ≡ outcome.Ran = is in cc
 not_told (answer.Revived pid) why is = let clash : outcome.Refused why ≡ outcome.Ran = is in cc
@@ -51,7 +51,7 @@ not_told answer.Unit why is = let clash : outcome.Refused why ≡ outcome.Ran = 
 abbrev stage : NodeState → ℕ → Stage
 stage node arrivals = record { node = node; arrivals = arrivals }
 
--- what is refused leaves all as it was
+-- what is refused leaves all unchanged
 refused_stays : (e : Event) (why : Refusal) (old : Stage) (sent : List Happening) (new : Stage) →
     ComesTo e (outcome.Refused why) old sent new → new ≡ old
 refused_stays e why old sent new comes = by comes.answer comes.tells comes.occurs
@@ -61,7 +61,7 @@ refused_stays e why old sent new comes = by comes.answer comes.tells comes.occur
     by (Err other) tells occurs =
         ap (λ n. stage n new.arrivals) occurs.happens.1 ∙ ap (λ k. stage old.node k) occurs.arrivals
 
--- The script waits for a process, and goes on once more; or it waits for nobody.
+-- The script waits for a process, and is advanced once more; or it waits for none.
 
 pub goes_waiting : (pid : ℕ) (first told : Outcome) (old between new : Player) → waiting_for first ≡ Some pid →
     Leads (ComesTo (Advance false) first) old between → Leads (ComesTo (Advance true) told) between new →

@@ -1,4 +1,4 @@
--- What is seen of one instruction more.
+-- The record of one instruction more.
 use Rattle.std.proofs.Common.{◌≡◌, ◌∙◌, ◌-◌, ◌<◌, ℕ, List, [], ◌∷◌, ◌++◌, Option, Some, None, Result, Ok, Err, IfOk, All, refl, sym, ap, subst, length, slice_get, true, false, arith}
 use Rattle.std.proofs.lemmas.List.{length-append}
 use Rattle.std.proofs.lemmas.List.Elements.{All-append, All-cons}
@@ -16,10 +16,10 @@ use Rattle.node_views.specs.declared.node_view.NodeView.{NodeView}
 use Rattle.rehearsals.specs.Observing.{view_of}
 use Rattle.upgrade_rehearsal.proofs.Leading.{leads_as, leads_then, one_stage}
 use Rattle.upgrade_rehearsal.proofs.Performing.{performed_occurs}
-use Rattle.upgrade_rehearsal.specs.Parts.{Begins, HasCome, IsAhead, IsRefusedWay, IsWholeWay}
+use Rattle.upgrade_rehearsal.specs.Parts.{Begins, HasCome, IsAhead, IsRefusedWay, IsSettled, IsWholeWay}
 use Rattle.upgrade_rehearsal.specs.Players.{Leads, Performed, stage_of}
 use Rattle.upgrade_rehearsal.specs.Seen.{AreSeen, ComesTo, GoesWithJobs, IsGoneThrough, IsSeen, IsTried, IsWay, node_view}
-use Rattle.upgrade_rehearsal.specs.Stages.{AllCome, AllTake, Occurs, Plays, Stage}
+use Rattle.upgrade_rehearsal.specs.Stages.{AllCome, AllTake, IsRestless, Occurs, Plays, Stage}
 use Rattle.upgrade_rehearsal.specs.Sequences.{Then}
 use Rattle.upgrade_rehearsal.specs.declared.player.Player.{Player}
 use Rattle.upgrade_rehearsal.specs.declared.arrival.Arrival.{Arrival}
@@ -42,12 +42,12 @@ all_more ss s all one =
     let Carried : Seen → Type 0 = λ x. is_carried_out x.outcome ≡ true in
     All-append Carried ss (s ∷ []) all (All-cons Carried s [] one (λ k d less. absurd (omega (arith, less))))
 
--- Behind the last instruction the node is as it was seen then, or where none was made, as the script began.
+-- After the last instruction the node is as it was seen then, or if there was none, as the script began.
 pub last_seen : (ss : List Seen) (s : Seen) (begun view : NodeView) → s.view ≡ view →
     view_of (slice_get (ss ++ s ∷ []) (length (ss ++ s ∷ []) - 1)) begun ≡ view
 last_seen ss s begun view is = ap (λ o. view_of o begun) (last_behind ss s) ∙ is
 
--- One instruction more has been gone through: what was seen of it stands behind the others.
+-- One instruction more was run: its record is appended to the others.
 
 pub seen_through : (traffic : List Arrival) (ss more : List Seen) (s : Seen) (old between new : Stage) → more ≡ ss ++ s ∷ [] →
     AreSeen traffic old ss between → IsSeen traffic between s new → AreSeen traffic old more new
@@ -68,15 +68,15 @@ pub gone_through : (ss more : List Seen) (s : Seen) → more ≡ ss ++ s ∷ [] 
     is_carried_out s.outcome ≡ false → IsGoneThrough more
 gone_through ss more s is all end = record { before = ss; last = s; parts = is; carried_out = all; ended = end }
 
--- What has come of an instruction, by what was done: what trials had brought about was cleared away, the script went on, and the traffic was
--- played.
+-- What an executed instruction causes, by what was done: what trials had caused was cleared away, the script was advanced, and
+-- the traffic was played.
 pub has_come : (traffic : List Arrival) (old cleared gone played new : Player) (told : Outcome) (seen_behind seen_after : NodeView)
-    (happened : List Happening) → cleared.journal ≡ old.journal → cleared.arrivals ≡ old.arrivals → cleared.sent.items ≡ [] →
+    (restless : Option ℕ) (happened : List Happening) → cleared.journal ≡ old.journal → cleared.arrivals ≡ old.arrivals → cleared.sent.items ≡ [] →
     Leads (ComesTo (Advance false) told) cleared gone → seen_behind ≡ node_view (stage_of gone).node → Leads (Plays traffic) gone played →
-    seen_after ≡ node_view (stage_of played).node → happened ≡ played.sent.items → new.journal ≡ played.journal →
+    IsSettled seen_after restless (stage_of played) → happened ≡ played.sent.items → new.journal ≡ played.journal →
     new.arrivals ≡ played.arrivals →
-    HasCome traffic (stage_of old) told seen_behind seen_after happened (stage_of new)
-has_come traffic old cleared gone played new told seen_behind seen_after happened same_journal same_count empty step behind plays after sent
+    HasCome traffic (stage_of old) told seen_behind seen_after restless happened (stage_of new)
+has_come traffic old cleared gone played new told seen_behind seen_after restless happened same_journal same_count empty step behind plays after sent
     journal arrivals =
     let same : stage_of new ≡ stage_of played = one_stage played new journal arrivals in
     let before : stage_of cleared ≡ stage_of old = one_stage old cleared same_journal same_count in
@@ -87,17 +87,18 @@ has_come traffic old cleared gone played new told seen_behind seen_after happene
       behind_is = behind;
       with_traffic = plays.sent;
       plays = subst (λ st. Plays traffic (stage_of gone) plays.sent st) (sym same) plays.scene;
-      after_is = after ∙ ap (λ (st : Stage). node_view st.node) (sym same);
+      after_is = after.0 ∙ ap (λ (st : Stage). node_view st.node) (sym same);
+      restless_is = subst (λ st. IsRestless st restless) (sym same) after.1;
       happened_are = sent ∙ plays.kept ∙ ap (λ ms. ms ++ plays.sent) (step.kept ∙ ap (λ ms. ms ++ step.sent) empty);
     }
 
--- An instruction as it was seen, by its parts.
+-- The record of an instruction, by its parts.
 pub seen_by : (traffic : List Arrival) (old back new : Stage) (s : Seen) → back ≡ old →
-    IsAhead traffic old s.instruction s.nobody s.jobs s.is_as_before →
-    HasCome traffic back s.outcome s.behind s.view s.happened new → IsSeen traffic old s new
+    IsAhead traffic old s.instruction s.outlook s.jobs s.is_as_before →
+    HasCome traffic back s.outcome s.behind s.view s.restless s.happened new → IsSeen traffic old s new
 seen_by traffic old back new s same ahead come = record {
   instruction = ahead.next;
-  nobody = ahead.unsuspended;
+  outlook = ahead.known;
   jobs = ahead.tried;
   behind = come.behind;
   with_it = come.with_it;
@@ -106,11 +107,13 @@ seen_by traffic old back new s same ahead come = record {
   with_traffic = come.with_traffic;
   plays = come.plays;
   seen_after = come.after_is;
+  restless = come.restless_is;
   happened = come.happened_are;
   undone = ahead.undone;
 }
 
--- An instruction while jobs run, by what was done: all of the traffic came, and so many processes took a message.
+-- The trial of an instruction while jobs run, by what was done: all of the traffic was sent, and so many processes took a
+-- message.
 pub tried_with : (traffic : List Arrival) (jobs : ℕ) (old between laden : Player) (run : JobsRun) →
     Leads (AllCome traffic) old between → Leads (AllTake jobs) between laden → run.jobs ≡ jobs → 0 < jobs →
     GoesWithJobs run.waits_for run.outcome (stage_of laden) → IsTried traffic (stage_of old) (Some run)
@@ -137,7 +140,7 @@ refused_by vsn asked old new done why same is w =
     performed_occurs old new (Install vsn) (Err why) (subst (λ d. Performed old (Install vsn) d new) is w) in
     subst (λ v. Leads (Begins v (Some why)) old new) same refused
 
--- A way by its parts: the install was refused, or the script was gone through.
+-- A way by its parts: the install was refused, or the script was run to its end.
 
 refused_way : (traffic : List Arrival) (vsn : List ℕ) (why : Refusal) (w : Way) (old new : Player) →
     Leads (Begins vsn (Some why)) old new → IsRefusedWay why (stage_of new) w → IsWay traffic (stage_of old) vsn w (stage_of new)

@@ -1,8 +1,8 @@
--- How a journal goes on, and back.
+-- A journal that is continued, and one that is undone.
 use Rattle.std.specs.Prelude.{◌≡◌, List, ◌++◌}
 use Rattle.undo_journal.specs.Timeline.{Station, Timeline}
 
--- A journal goes on: its stations stay, and others come behind them.
+-- A journal is continued: its stations stay, and others are appended.
 pub record Extends {S N : Type 0} (old new : Timeline S N) : Type 0 where
   pub first : new.first ≡ old.first
   pub more : List (Station S N)

@@ -1,6 +1,6 @@
--- What an event brings about that clients and supervisors see: the replies that are sent with it; the exit of the process whose
--- job is committed, if it ends by it; and, if the node refuses a message, the name that it was sent to
--- (Erlang Reference Manual, Processes; gen_server(3)).
+-- What an event causes that clients and supervisors see: the replies that are sent with it; the exit of the process whose job is
+-- committed, if the process ends because of it; and, if the node refuses a message, the name that it was sent to (Erlang
+-- Reference Manual, Processes; gen_server(3)).
 use Rattle.std.specs.Prelude.{ℕ, List, [], Option, None, Some}
 use Rattle.erl_semantics.specs.declared.acts.Place.{Place}
 use Rattle.erl_semantics.specs.declared.acts.Place.TheVariants.{Server, Loop}
@@ -56,7 +56,7 @@ receiver_of (event.MakePermanent vsn) = None
 receiver_of (event.RebootOld vsn) = None
 receiver_of event.Sweep = None
 
--- What an event brings about by whether the node accepts it, with these replies, or refuses it.
+-- What an event causes if the node accepts it, with these replies, or refuses it.
 
 abbrev pub accepted : Event → List Reply → Happening
 accepted e replies = record { replies = replies; exit = exit_of e; unheard = None }

@@ -1,7 +1,7 @@
 -- What happens, one thing after the other, and what is sent meanwhile.
 use Rattle.std.specs.Prelude.{◌≡◌, List, [], ◌∷◌, ◌++◌}
 
--- From one state, with what is sent meanwhile, in order, to another.
+-- From one state to another, with what is sent meanwhile, in order.
 abbrev pub Goes : Type 0 → Type 0 → Type 1
 Goes S M = S → List M → S → Type 0
 

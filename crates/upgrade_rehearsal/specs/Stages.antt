@@ -1,6 +1,5 @@
--- What happens on the node that an upgrade is rehearsed on: clients send messages, and processes serve them
--- (gen_server(3); release_handler(3)).
-use Rattle.std.specs.Prelude.{◌≡◌, ℕ, ◌+◌, List, [], ◌∷◌, length, Option, None, Some, Result, Ok, Err}
+-- What happens on the node of a rehearsal: clients send messages, and processes serve them (gen_server(3); release_handler(3)).
+use Rattle.std.specs.Prelude.{◌≡◌, ◌⊎◌, ℕ, ◌+◌, List, [], ◌∷◌, length, Option, None, Some, Result, Ok, Err}
 use Rattle.erl_semantics.specs.declared.jobs.Done.{Done}
 use Rattle.erl_semantics.specs.declared.jobs.Job.{Job}
 use Rattle.node_core.specs.Node.{NodeState}
@@ -23,33 +22,33 @@ use Rattle.upgrade_rehearsal.specs.Happenings.{accepted, refused}
 use Rattle.upgrade_rehearsal.specs.Sequences.{Goes, InTurn, Then}
 use Rattle.upgrade_rehearsal.specs.declared.arrival.Arrival.{Arrival}
 
--- Where a rehearsal stands: its node, and how many messages clients have sent.
+-- The present state of a rehearsal: its node, and how many messages clients have sent.
 pub record Stage : Type 0 where
   pub node : NodeState
   pub arrivals : ℕ
 
--- From a stage to another, with what the events meanwhile bring about, an item for each.
+-- From a stage to another, with what the events meanwhile cause, an item for each.
 abbrev pub Scene : Type 1
 Scene = Goes Stage Happening
 
--- An event comes to this: as the written rule accepts it, or as it refuses it, and then the node is as it was.
+-- An event has this result: the written rule accepts it, or refuses it, and then the node is unchanged.
 abbrev pub Happens : NodeState → Event → Result Answer Refusal → List Happening → NodeState → Type 0
 Happens n e (Ok told) sent after =
     (a : Accepted NodeState Answer Note) × Step n e (Ok a) × (told ≡ a.answer) × (after ≡ a.node)
     × (sent ≡ accepted e a.note.replies ∷ [])
 Happens n e (Err why) sent after = Step n e (Err why) × (after ≡ n) × (sent ≡ refused e ∷ [])
 
--- An event comes to this, and no client has sent anything with it.
+-- An event has this result, and no client has sent anything with it.
 pub record Occurs (e : Event) (told : Result Answer Refusal) (old : Stage) (sent : List Happening) (new : Stage) : Type 0 where
   pub happens : Happens old.node e told sent new.node
   pub arrivals : new.arrivals ≡ old.arrivals
 
--- the same, whatever it comes to
+-- the same with any result
 abbrev pub Undergoes : Event → Scene
 Undergoes e old sent new = (told : Result Answer Refusal) × Occurs e told old sent new
 
--- A client sends a message: the first has the number 1, and each the next one, which is that of the call if it is one. Where
--- nobody has the name nothing comes of it.
+-- A client sends a message. The first has the number 1, and each the next one; if it is a call, that is the number of the call.
+-- If no process has the name, the message has no effect.
 
 abbrev pub message_by : ArrivalKind → ℕ → Term → ClientMessage
 message_by kind.Call number term = Call number term
@@ -64,7 +63,7 @@ pub record Comes (a : Arrival) (old : Stage) (sent : List Happening) (new : Stag
   pub happens : Happens old.node (event_of a new.arrivals) told sent new.node
   pub arrivals : new.arrivals ≡ old.arrivals + 1
 
--- the job that an event has given, if it has
+-- the job that an event has given, if it has given one
 
 abbrev pub job_by : Answer → Option Job
 job_by (answer.Job job) = Some job
@@ -82,7 +81,7 @@ abbrev pub job_in : Result Answer Refusal → Option Job
 job_in (Ok told) = job_by told
 job_in (Err why) = None
 
--- A process takes its next message, and what it has run is committed.
+-- A process takes its next message, and the result of running it is committed.
 
 abbrev pub Runs : Job → Scene
 Runs job old sent new = (done : Done) × (done.job ≡ job) × Undergoes (Commit done) old sent new
@@ -91,7 +90,7 @@ pub record IsServed (pid : ℕ) (old : Stage) (sent : List Happening) (new : Sta
   pub job : Job
   pub serves : Then (Occurs (Take pid) (Ok (answer.Job job))) (Runs job) old sent new
 
--- The process that does something is the one with the least pid of those that can take a message; or nobody can take one.
+-- The next process is the one with the least pid of those that can take a message; or no process can take one.
 
 abbrev pub IsNext : ℕ → Stage → Type 0
 IsNext pid s = IsNextRunnable 0 (Some pid) s.node.processes
@@ -105,16 +104,24 @@ ServesNext pid old sent new = IsNext pid old × IsServed pid old sent new
 abbrev pub TakesNext : ℕ → Scene
 TakesNext pid old sent new = IsNext pid old × Undergoes (Take pid) old sent new
 
--- Processes are served, the least pid first, until nobody can take a message.
-abbrev pub ServesAll : Scene
-ServesAll old sent new = (pids : List ℕ) × InTurn ServesNext pids old sent new × NobodyIsNext new
+-- The process that is served next, if a process can take a message.
+abbrev pub IsRestless : Stage → Option ℕ → Type 0
+IsRestless s who = IsNextRunnable 0 who s.node.processes
 
--- So many processes take a message each, the least pid first, and nobody is left that could take one.
+-- Processes are served, the least pid first, until no process can take a message, or so many messages have been served.
+
+abbrev pub most_served : ℕ
+most_served = 1000
+
+abbrev pub ServesAll : Scene
+ServesAll old sent new = (pids : List ℕ) × InTurn ServesNext pids old sent new × (NobodyIsNext new ⊎ (length pids ≡ most_served))
+
+-- So many processes take a message each, the least pid first, and no process is left that could take one.
 abbrev pub AllTake : ℕ → Scene
 AllTake count old sent new = (pids : List ℕ) × InTurn TakesNext pids old sent new × (count ≡ length pids) × NobodyIsNext new
 
--- The traffic is played: processes serve what waits, and then each message comes, and they serve again. Or all of it comes,
--- and nobody serves it.
+-- The traffic is played: processes serve what waits, and then each message is sent, and they serve again. Or all of it is sent,
+-- and no process serves it.
 
 abbrev pub PlaysEach : List Arrival → Scene
 PlaysEach traffic = InTurn (λ a. Then (Comes a) ServesAll) traffic

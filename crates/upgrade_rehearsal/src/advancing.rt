@@ -1,4 +1,4 @@
-// A script that goes on by one instruction.
+// Advancing a script by one instruction.
 ghost use Rattle.std.specs.Prelude.{◌≡◌, IfOk};
 ghost use Rattle.node_types.specs.declared.event.Event.TheVariants.{Advance};
 ghost use Rattle.upgrade_rehearsal.specs.Players.{Leads};
@@ -9,8 +9,8 @@ use crate::player::Player;
 use node_types::{Answer, Event, Refusal};
 use rehearsals::Outcome;
 
-/// Has the script go on by one instruction, and tells what that comes to. Where it waits for a process that runs, that can be
-/// given up.
+/// Advances the script by one instruction, and returns the outcome. If the script waits for a process that runs, `give_up` gives
+/// the wait up.
 ///
 /// # Errors
 ///
@@ -21,7 +21,7 @@ pub(crate) fn advance(player: &mut Player, give_up: bool) -> Result<Outcome, Hal
     Ok(outcome_of(player.perform(&Event::Advance { give_up })?))
 }
 
-/// What an advance comes to.
+/// Returns the outcome of an advance.
 fn outcome_of(done: Result<Answer, Refusal>) -> Outcome
     ensures { result ≡ advance_outcome done }
 {
@@ -34,7 +34,7 @@ fn outcome_of(done: Result<Answer, Refusal>) -> Outcome
     }
 }
 
-/// The process that a script waits for, if it does.
+/// Returns the process that a script waits for, if it waits.
 pub(crate) fn waiting_for(outcome: &Outcome) -> Option<u64>
     ensures { result ≡ waiting_for outcome.now }
 {

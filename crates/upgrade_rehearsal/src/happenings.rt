@@ -1,4 +1,4 @@
-// What events bring about, as clients and supervisors see it.
+// What events cause, as clients and supervisors see it.
 ghost use Rattle.std.specs.Prelude.{◌≡◌, [], IfOk, None, Some};
 ghost use Rattle.upgrade_rehearsal.specs.Happenings.{exit_by, exit_of, module_at, receiver_of};
 ghost use Rattle.erl_semantics.specs.declared.outcome.End.TheVariants as ends;
@@ -10,12 +10,12 @@ use rehearsals::{Exit, Happening};
 use std::alloc::{AllocError, Global};
 use values::{Duplicate, Row};
 
-/// What is kept of an event before it is performed: what it brings about if the node accepts it, and if the node refuses it.
+/// What is kept of an event before it is performed: what it causes if the node accepts it, and if the node refuses it.
 #[derive(Drop)]
 pub(crate) struct Ahead {
-    /// The exit of the process whose job it commits, if that ends by it.
+    /// The exit of the process whose job it commits, if the process ends because of it.
     pub(crate) exit: Option<Exit>,
-    /// The name that it sends a message to, if it does.
+    /// The name that it sends a message to, if it sends one.
     pub(crate) receiver: Option<Atom>,
 }
 
@@ -31,7 +31,7 @@ impl Ahead {
     }
 }
 
-/// Returns the exit of the process whose job an event commits, if it ends by it.
+/// Returns the exit of the process whose job an event commits, if the process ends because of it.
 fn exit_of(alloc: Global, event: &Event) -> Result<Option<Exit>, AllocError>
     ensures { IfOk result (λ exit. exit ≡ exit_of event.now) }
 {
@@ -41,7 +41,7 @@ fn exit_of(alloc: Global, event: &Event) -> Result<Option<Exit>, AllocError>
     }
 }
 
-/// Returns the exit of the process of a job, if it ends by it.
+/// Returns the exit of the process of a job, if the process ends because of it.
 fn exit_by(alloc: Global, done: &Done) -> Result<Option<Exit>, AllocError>
     ensures { IfOk result (λ exit. exit ≡ exit_by done.now.job done.now.outcome.end) }
 {
@@ -51,7 +51,7 @@ fn exit_by(alloc: Global, done: &Done) -> Result<Option<Exit>, AllocError>
     }
 }
 
-/// Returns the exit of the process of a job, for this reason.
+/// Returns the exit of the process of a job with this reason.
 fn exit_with(alloc: Global, job: &Job, reason: &Term) -> Result<Exit, AllocError>
     ensures { IfOk result (λ exit. Some exit ≡ exit_by job.now (ends.Exit reason.now)) }
 {
@@ -66,7 +66,7 @@ fn exit_with(alloc: Global, job: &Job, reason: &Term) -> Result<Exit, AllocError
     })
 }
 
-/// Returns the module whose code a process enters at a place. Takes no memory.
+/// Returns the module whose code a process enters at a place. Allocates nothing.
 fn module_at(place: &Place) -> &Atom
     ensures { result.now ≡ module_at place.now }
 {
@@ -76,7 +76,7 @@ fn module_at(place: &Place) -> &Atom
     }
 }
 
-/// Returns the name that an event sends a message to, if it does.
+/// Returns the name that an event sends a message to, if it sends one.
 fn receiver_of(alloc: Global, event: &Event) -> Result<Option<Atom>, AllocError>
     ensures { IfOk result (λ name. name ≡ receiver_of event.now) }
 {
@@ -86,7 +86,7 @@ fn receiver_of(alloc: Global, event: &Event) -> Result<Option<Atom>, AllocError>
     }
 }
 
-/// Returns what an event has brought about, with this exit and the replies of its note. Takes no memory.
+/// Returns what an accepted event causes: this exit, and the replies of its note. Allocates nothing.
 pub(crate) fn accepted(alloc: Global, exit: Option<Exit>, note: Note) -> Happening
     ensures { result ≡ record { replies = note.replies; exit = exit; unheard = None } }
 {
@@ -97,8 +97,7 @@ pub(crate) fn accepted(alloc: Global, exit: Option<Exit>, note: Note) -> Happeni
     }
 }
 
-/// Returns what an event has brought about that the node has refused, and that sent a message to this name, if it did. Takes
-/// no memory.
+/// Returns what a refused event causes, which sent a message to `receiver`, if it sent one. Allocates nothing.
 pub(crate) fn refused(alloc: Global, receiver: Option<Atom>) -> Happening
     ensures { result ≡ record { replies = []; exit = None; unheard = receiver } }
 {

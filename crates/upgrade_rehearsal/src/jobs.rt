@@ -1,4 +1,4 @@
-// Instructions that are tried while jobs run.
+// The trial of instructions while jobs run.
 ghost use Rattle.std.specs.Prelude.{◌≡◌, IfOk, OnOk};
 ghost use Rattle.upgrade_rehearsal.specs.Going.{Extends};
 ghost use Rattle.upgrade_rehearsal.specs.Players.{IsBackAt, IsBookmark, stage_of};
@@ -10,8 +10,8 @@ use crate::halting::Halt;
 use crate::player::{Bookmark, Player};
 use rehearsals::{JobsRun, Outcome};
 
-/// Tries the next instruction while all run that have a message of the traffic to take, and goes back to where it stood. None
-/// where nobody has.
+/// Tries the next instruction while every process that has a message of the traffic to take runs a job, and goes back to where
+/// it began. Returns `None` if no process has a message to take.
 pub(crate) fn try_with_jobs(
     player: &mut Player,
     traffic: &[Arrival],
@@ -26,7 +26,7 @@ pub(crate) fn try_with_jobs(
     Ok(tried)
 }
 
-/// Has all of the traffic arrive and everybody take a message, and the script go on. None where nobody takes one.
+/// Sends all of the traffic, has every process take a message, and advances the script. Returns `None` if no process takes one.
 fn go_on_laden(player: &mut Player, traffic: &[Arrival]) -> Result<Option<JobsRun>, Halt>
     ensures tried { IfOk result (IsTried traffic.now (stage_of player.old)) }
     ensures journal { OnOk result (Extends player.old.journal player.new.journal) }
@@ -39,7 +39,7 @@ fn go_on_laden(player: &mut Player, traffic: &[Arrival]) -> Result<Option<JobsRu
     Ok(Some(go_on_with_jobs(player, jobs)?))
 }
 
-/// Has the script go on while so many jobs run; where it waits for one of them, it goes on once more and waits for none.
+/// Advances the script while so many jobs run. If it waits for one of them, the script is advanced once more and waits for none.
 fn go_on_with_jobs(player: &mut Player, jobs: u64) -> Result<JobsRun, Halt>
     ensures run { IfOk result (λ run. GoesWithJobs run.waits_for run.outcome (stage_of player.old)) }
     ensures jobs { IfOk result (λ run. run.jobs ≡ jobs) }

@@ -1,4 +1,4 @@
-// A node that is rehearsed with, and its journal.
+// The node of a rehearsal, and its journal.
 ghost use Rattle.std.specs.Prelude.{◌≡◌, ◌∷◌, ◌++◌, ◌<◌, [], true, IfOk, None, OnErr, OnOk, Some, length, vec_capacity, vec_len};
 ghost use Rattle.node_types.specs.declared.event.Event.TheVariants.{SetUnpacked};
 ghost use Rattle.undo_journal.specs.Timeline.{cut_to, here, opened};
@@ -8,6 +8,7 @@ ghost use Rattle.upgrade_rehearsal.specs.Players.{IsAlike, IsBookmark, Leads, Pe
 ghost use Rattle.upgrade_rehearsal.specs.Seen.{node_view};
 ghost use Rattle.upgrade_rehearsal.specs.Sequences.{Then};
 ghost use Rattle.upgrade_rehearsal.specs.Stages.{AllCome, AllTake, Comes, IsServed, Undergoes, Plays, PlaysEach, Runs, ServesAll, job_in};
+ghost use Rattle.upgrade_rehearsal.specs.Stages.{IsRestless};
 
 use crate::arrival::Arrival;
 use crate::halting::Halt;
@@ -25,11 +26,11 @@ use std::mem;
 use undo_journal::{Journal, JournalError, Mark, Told};
 use values::Row;
 
-/// How many messages are taken one after another before it is said that there is no end of them.
-const MOST_TAKEN: u32 = 100_000;
+/// The number of messages that are served at most before the next message of the traffic is sent, or the script is advanced.
+const MOST_SERVED: usize = 1_000;
 
-/// A node that is rehearsed with and its journal, what events have brought about since it was asked for, and how many messages
-/// clients have sent.
+/// The node of a rehearsal with its journal, what events have caused since [`Player::happened`] was last called, and how many
+/// messages clients have sent.
 #[derive(Drop)]
 pub(crate) struct Player {
     alloc: Global,
@@ -38,7 +39,7 @@ pub(crate) struct Player {
     arrivals: u64,
 }
 
-/// A place of a rehearsal that can be gone back to: the mark of the journal, and how many messages clients had sent.
+/// A place of a rehearsal to which it can be undone: the mark of the journal, and how many messages clients had sent.
 #[derive(Clone, Copy)]
 pub(crate) struct Bookmark {
     mark: Mark,
@@ -46,7 +47,7 @@ pub(crate) struct Bookmark {
 }
 
 impl Player {
-    /// A player with a node that has booted.
+    /// Returns a player with a node that has booted.
     pub(crate) fn new(alloc: Global, node: Node) -> Result<Player, AllocError>
         ensures journal { IfOk result (λ player. player.journal ≡ opened node) }
         ensures arrivals { IfOk result (λ player. player.arrivals ≡ 0) }
@@ -59,19 +60,19 @@ impl Player {
         })
     }
 
-    /// The allocator.
+    /// Returns the allocator.
     pub(crate) fn alloc(&self) -> Global {
         self.alloc
     }
 
-    /// The node where it stands.
+    /// Returns the node in its present state.
     pub(crate) fn node(&self) -> &Node
         ensures { result.now ≡ (here self.now.journal).node }
     {
         self.journal.state()
     }
 
-    /// Where it stands, so that it can be gone back to.
+    /// Returns the present place, so that the player can go back to it.
     pub(crate) fn bookmark(&self) -> Bookmark
         ensures { IsBookmark result self.now }
     {
@@ -81,7 +82,7 @@ impl Player {
         }
     }
 
-    /// What is seen of the node where it stands.
+    /// Returns the view of the node in its present state.
     pub(crate) fn view(&self) -> Result<NodeView, AllocError>
         ensures { IfOk result (λ view. view ≡ node_view (here self.now.journal).node) }
     {
@@ -95,11 +96,11 @@ impl Player {
         )
     }
 
-    /// Performs an event, and keeps what it brings about. Returns the answer, or why the node refuses it.
+    /// Performs an event, and keeps what it causes. Returns the answer, or why the node refuses it.
     ///
     /// # Errors
     ///
-    /// `Full` where no serial is left for a step, `Memory` where memory is refused. All is then as it was.
+    /// `Full` if no serial is left for a step, `Memory` if an allocation fails. The player is unchanged then.
     pub(crate) fn perform(&mut self, event: &Event) -> Result<Result<Answer, Refusal>, Halt>
         ensures performed { IfOk result (λ done. Performed self.old event.now done self.new) }
         ensures err { OnErr result (IsAlike self.old self.new) }
@@ -117,7 +118,7 @@ impl Player {
         }
     }
 
-    /// Performs an event whose answer nobody needs, whether the node accepts it or refuses it.
+    /// Performs an event whose answer isn't needed, whether the node accepts or refuses it.
     ///
     /// # Errors
     ///
@@ -129,18 +130,18 @@ impl Player {
         Ok(())
     }
 
-    /// Has the node know a release; where it knows one of its version, it keeps that.
+    /// Adds a release to the node's releases. If the node has one of the same version, it keeps that.
     pub(crate) fn know(&mut self, release: Release) -> Result<(), Halt>
         ensures { OnOk result (Leads (Undergoes (SetUnpacked release)) self.old self.new) }
     {
         self.happen(&Event::SetUnpacked(release))
     }
 
-    /// Goes back to a place where it has stood.
+    /// Goes back to an earlier place.
     ///
     /// # Errors
     ///
-    /// `Memory` where memory is refused.
+    /// `Memory` if an allocation fails.
     pub(crate) fn undo(&mut self, bookmark: Bookmark) -> Result<(), Halt>
         ensures journal { OnOk result (cut_to bookmark.mark self.old.journal ≡ Some self.new.journal) }
         ensures arrivals { OnOk result (self.new.arrivals ≡ bookmark.arrivals) }
@@ -154,7 +155,7 @@ impl Player {
         }
     }
 
-    /// Returns what events have brought about since it was asked for.
+    /// Returns what events have caused since the last call, and forgets it.
     pub(crate) fn happened(&mut self) -> Row<Happening>
         ensures happened { result ≡ self.old.sent.items }
         ensures none { self.new.sent.items ≡ [] }
@@ -164,11 +165,11 @@ impl Player {
         Row::new(mem::replace(&mut self.sent, Vec::new(self.alloc)))
     }
 
-    /// Has something arrive; it doesn't where nobody has its name.
+    /// Sends what a client sends. Nothing arrives if no process has the name.
     ///
     /// # Errors
     ///
-    /// As [`Player::perform`], and `Full` where messages can't be counted further.
+    /// As [`Player::perform`], and `Full` if messages can't be counted further.
     pub(crate) fn arrive(&mut self, arrival: &Arrival) -> Result<(), Halt>
         ensures { OnOk result (Leads (Comes arrival.now) self.old self.new) }
     {
@@ -181,7 +182,7 @@ impl Player {
         Ok(())
     }
 
-    /// Has a process that can take a message take its next one and run it, and commits what that gives.
+    /// Has a process take its next message and run it, and commits the result. The process can take a message.
     fn serve_one(&mut self, pid: u64) -> Result<(), Halt>
         requires { is_runnable (living pid (here self.old.journal).node.processes) ≡ true }
         ensures { OnOk result (Leads (IsServed pid) self.old self.new) }
@@ -192,7 +193,7 @@ impl Player {
         }
     }
 
-    /// Runs a job, and commits what that gives.
+    /// Runs a job, and commits the result.
     fn commit(&mut self, job: &Job) -> Result<(), Halt>
         ensures { OnOk result (Leads (Runs job.now) self.old self.new) }
     {
@@ -200,24 +201,27 @@ impl Player {
         self.happen(&Event::Commit(done))
     }
 
-    /// Serves the messages that wait, the least pid first, until nobody can take one.
-    ///
-    /// # Errors
-    ///
-    /// `Endless` where there is no end of them.
+    /// Serves the messages that wait, the least pid first, until no process can take one or a thousand have been served.
     pub(crate) fn serve(&mut self) -> Result<(), Halt>
         ensures { OnOk result (Leads ServesAll self.old self.new) }
     {
-        for _ in 0..MOST_TAKEN {
+        for _ in 0..MOST_SERVED {
             match self.journal.state().runnable(0) {
                 Some(pid) => self.serve_one(pid)?,
                 None => return Ok(()),
             }
         }
-        Err(Halt::Endless(MOST_TAKEN - 1))
+        Ok(())
     }
 
-    /// Has a message arrive, and serves all that wait.
+    /// Returns the process that would take the next message, if a process can take one.
+    pub(crate) fn restless(&self) -> Option<u64>
+        ensures { IsRestless (stage_of self.now) result }
+    {
+        self.journal.state().runnable(0)
+    }
+
+    /// Sends a message, and serves the messages that wait.
     fn play_one(&mut self, arrival: &Arrival) -> Result<(), Halt>
         ensures { OnOk result (Leads (Then (Comes arrival.now) ServesAll) self.old self.new) }
     {
@@ -225,8 +229,8 @@ impl Player {
         self.serve()
     }
 
-    /// Plays the traffic: the messages that wait are served, and then each of it arrives, and all that wait are served again.
-    /// Without any, what processes send to one another is served all the same.
+    /// Plays the traffic: serves the messages that wait, and then sends each message of it and serves again. Even without
+    /// traffic, what processes send to one another is served.
     pub(crate) fn play(&mut self, traffic: &[Arrival]) -> Result<(), Halt>
         ensures { OnOk result (Leads (Plays traffic.now) self.old self.new) }
     {
@@ -234,7 +238,7 @@ impl Player {
         self.play_each(traffic)
     }
 
-    /// Has each message of the traffic arrive, and all that wait served.
+    /// Sends each message of the traffic, and serves the messages that wait after each.
     fn play_each(&mut self, traffic: &[Arrival]) -> Result<(), Halt>
         ensures { OnOk result (Leads (PlaysEach traffic.now) self.old self.new) }
     {
@@ -244,7 +248,7 @@ impl Player {
         Ok(())
     }
 
-    /// Has all of the traffic arrive, and nobody serve it.
+    /// Sends all of the traffic, and serves none of it.
     pub(crate) fn arrive_all(&mut self, traffic: &[Arrival]) -> Result<(), Halt>
         ensures { OnOk result (Leads (AllCome traffic.now) self.old self.new) }
     {
@@ -254,11 +258,11 @@ impl Player {
         Ok(())
     }
 
-    /// Has each process that can take a message take one, the least pid first, and tells how many did.
+    /// Has each process that can take a message take one, the least pid first, and returns how many did.
     ///
     /// # Errors
     ///
-    /// As [`Player::perform`], and `Full` where they can't be counted.
+    /// As [`Player::perform`], and `Full` if they can't be counted.
     pub(crate) fn take_all(&mut self) -> Result<u64, Halt>
         ensures { IfOk result (λ count. Leads (AllTake count) self.old self.new) }
     {
@@ -272,7 +276,7 @@ impl Player {
     }
 }
 
-/// The job that an event has given, if it has.
+/// Returns the job that an event has given, if it has given one.
 fn job_in(done: Result<Answer, Refusal>) -> Option<Job>
     ensures { result ≡ job_in done }
 {
@@ -282,7 +286,7 @@ fn job_in(done: Result<Answer, Refusal>) -> Option<Job>
     }
 }
 
-/// Keeps what an event of this exit has brought about, for which there is room, and hands the answer out.
+/// Keeps what an event with this exit causes, and returns the answer. There is room for it.
 fn keep(
     alloc: Global,
     sent: &mut Vec<Happening>,
@@ -298,7 +302,7 @@ fn keep(
     answer
 }
 
-/// The only value that tells of an event.
+/// Returns the only item.
 fn only_told(mut told: Vec<Told<Answer, Note>>) -> Told<Answer, Note>
     requires { length told.items ≡ 1 }
     ensures { told.items ≡ result ∷ [] }

@@ -9,7 +9,7 @@ use shell_requests::ArrivalKind;
 use std::alloc::{AllocError, Global};
 use values::Duplicate;
 
-/// The event that something that a client sends is; a call has this number. The client is 0.
+/// Returns what a client sends as an event; if it is a call, it has this number. The client is 0.
 pub(crate) fn event_of(alloc: Global, arrival: &Arrival, number: u64) -> Result<Event, AllocError>
     ensures { IfOk result (λ event. event ≡ event_of arrival.now number) }
 {

@@ -1,7 +1,7 @@
-// Who is told how far a rehearsal has come.
+// The progress of a rehearsal.
 
-/// Who watches a rehearsal, and is handed nothing of it.
+/// An observer of the progress of a rehearsal; it gets no part of the rehearsal.
 pub trait Watch {
-    /// An instruction more has been gone through.
+    /// Is called after each instruction.
     fn step(&mut self);
 }

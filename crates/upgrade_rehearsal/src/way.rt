@@ -4,9 +4,9 @@ ghost use Rattle.std.specs.Str.{chars};
 ghost use Rattle.rehearsals.specs.Observing.{view_of};
 ghost use Rattle.undo_journal.specs.Timeline.{here};
 ghost use Rattle.upgrade_rehearsal.specs.Going.{Extends};
-ghost use Rattle.node_questions.specs.Unsuspended.{nobody_of};
+ghost use Rattle.node_questions.specs.Outlooks.{outlook_of};
 ghost use Rattle.node_types.specs.declared.event.Event.TheVariants.{Advance};
-ghost use Rattle.upgrade_rehearsal.specs.Parts.{Begins, HasCome, IsAhead, IsRefusedWay, IsWholeWay};
+ghost use Rattle.upgrade_rehearsal.specs.Parts.{Begins, HasCome, IsAhead, IsRefusedWay, IsSettled, IsWholeWay};
 ghost use Rattle.upgrade_rehearsal.specs.Players.{IsBackAt, IsBookmark, Leads, stage_of};
 ghost use Rattle.upgrade_rehearsal.specs.Stages.{Plays};
 ghost use Rattle.upgrade_rehearsal.specs.Seen.{AreSeen, ComesTo, IsGoneThrough, IsSeen, IsTried, IsWay, next_of, node_view};
@@ -17,10 +17,9 @@ use crate::halting::Halt;
 use crate::jobs::try_with_jobs;
 use crate::player::{Bookmark, Player};
 use crate::watching::Watch;
-use erl_term::Atom;
 use low_instructions::Low;
 use node_core::Node;
-use node_questions::{lingerers, nobody_of};
+use node_questions::{Outlook, lingerers, outlook_of};
 use node_types::{Event, Refusal};
 use node_views::NodeView;
 use rehearsals::{Happening, JobsRun, Outcome, Station, Way};
@@ -29,7 +28,7 @@ use script_state::instruction_at;
 use std::alloc::{AllocError, Global};
 use values::{Duplicate, Row, Same};
 
-/// The next instruction of the script that runs, if one runs and one is left.
+/// Returns the next instruction of the script that runs, if one runs and one is left.
 fn next_of(alloc: Global, node: &Node) -> Result<Option<Low>, AllocError>
     ensures { IfOk result (λ next. next ≡ next_of node.now) }
 {
@@ -42,34 +41,36 @@ fn next_of(alloc: Global, node: &Node) -> Result<Option<Low>, AllocError>
     }
 }
 
-/// What is known of the next instruction before it is carried out.
+/// What is known of the next instruction before it is executed.
 #[derive(Drop)]
 struct Ahead {
     /// The instruction, if one is left.
     instruction: Option<Low>,
-    /// The modules that it suspends, and nobody for them.
-    nobody: Row<Atom>,
-    /// How it goes while jobs run.
+    /// What the children show of it.
+    outlook: Outlook,
+    /// Its trial while jobs run.
     jobs: Option<JobsRun>,
-    /// Whether the node was as before where it was undone.
+    /// Whether the node was as before it after it was undone.
     is_as_before: bool,
 }
 
-/// What has come of an instruction.
+/// What an executed instruction causes.
 #[derive(Drop)]
 struct Done {
-    /// What it came to.
+    /// Its outcome.
     outcome: Outcome,
-    /// The node directly behind it.
+    /// The node directly after it.
     behind: NodeView,
-    /// The node behind the traffic.
+    /// The node after the traffic.
     view: NodeView,
-    /// What it and the events of the traffic have brought about.
+    /// The process that still has a message to take then, if one has.
+    restless: Option<u64>,
+    /// What it and the events of the traffic cause.
     happened: Row<Happening>,
 }
 
-/// Goes on by one instruction. It is tried while jobs run; then it is carried out and undone on purpose, and the node is
-/// compared with what was seen before; and then it is carried out, and the traffic is played.
+/// Advances the script by one instruction. The instruction is tried while jobs run. Then it is executed and undone on purpose,
+/// and the node is compared with what was seen before. Then it is executed, and the traffic is played.
 fn go_on(player: &mut Player, traffic: &[Arrival], before: &NodeView) -> Result<Station, Halt>
     requires { before.now ≡ node_view (here player.old.journal).node }
     ensures seen { IfOk result (λ s. IsSeen traffic.now (stage_of player.old) s (stage_of player.new)) }
@@ -82,42 +83,43 @@ fn go_on(player: &mut Player, traffic: &[Arrival], before: &NodeView) -> Result<
         outcome: done.outcome,
         behind: done.behind,
         is_as_before: ahead.is_as_before,
-        nobody: ahead.nobody,
+        outlook: ahead.outlook,
         jobs: ahead.jobs,
         view: done.view,
+        restless: done.restless,
         happened: done.happened,
     })
 }
 
-/// Looks at the next instruction, tries it while jobs run, and carries it out and undoes it; it stands where it stood then.
+/// Looks up the next instruction, tries it while jobs run, and executes and undoes it. The player is back where it began then.
 fn look_ahead(player: &mut Player, traffic: &[Arrival], before: &NodeView) -> Result<Ahead, Halt>
     requires { before.now ≡ node_view (here player.old.journal).node }
-    ensures ahead { IfOk result (λ it. IsAhead traffic.now (stage_of player.old) it.instruction it.nobody it.jobs
+    ensures ahead { IfOk result (λ it. IsAhead traffic.now (stage_of player.old) it.instruction it.outlook it.jobs
         it.is_as_before) }
     ensures back { OnOk result (IsBackAt player.old player.new) }
 {
-    let (instruction, nobody) = ask(player)?;
+    let (instruction, outlook) = ask(player)?;
     let (jobs, is_as_before) = try_out(player, traffic, before)?;
     Ok(Ahead {
         instruction,
-        nobody,
+        outlook,
         jobs,
         is_as_before,
     })
 }
 
-/// The next instruction, and the modules that it suspends and nobody for them.
-fn ask(player: &Player) -> Result<(Option<Low>, Row<Atom>), AllocError>
+/// Returns the next instruction, and what the children show of it.
+fn ask(player: &Player) -> Result<(Option<Low>, Outlook), AllocError>
     ensures instruction { IfOk result (λ it. it.0 ≡ next_of (stage_of player.now).node) }
-    ensures nobody { IfOk result (λ it. it.1 ≡ nobody_of (stage_of player.now).node.apps (next_of (stage_of player.now).node)) }
+    ensures outlook { IfOk result (λ it. it.1 ≡ outlook_of (stage_of player.now).node.apps (next_of (stage_of player.now).node)) }
 {
     let node = player.node();
     let instruction = next_of(player.alloc(), node)?;
-    let nobody = nobody_of(player.alloc(), node.apps(), &instruction)?;
-    Ok((instruction, nobody))
+    let outlook = outlook_of(player.alloc(), node.apps(), &instruction)?;
+    Ok((instruction, outlook))
 }
 
-/// Tries the next instruction while jobs run, and carries it out and undoes it; it stands where it stood then.
+/// Tries the next instruction while jobs run, and executes and undoes it. The player is back where it began then.
 fn try_out(
     player: &mut Player,
     traffic: &[Arrival],
@@ -134,24 +136,25 @@ fn try_out(
     Ok((jobs, is_as_before))
 }
 
-/// Carries the next instruction out, and plays the traffic.
+/// Executes the next instruction, and plays the traffic.
 fn carry_out(player: &mut Player, traffic: &[Arrival]) -> Result<Done, Halt>
-    ensures done { IfOk result (λ it. HasCome traffic.now (stage_of player.old) it.outcome it.behind it.view it.happened
+    ensures done { IfOk result (λ it. HasCome traffic.now (stage_of player.old) it.outcome it.behind it.view it.restless it.happened
         (stage_of player.new)) }
     ensures journal { OnOk result (Extends player.old.journal player.new.journal) }
 {
     let _ = player.happened();
     let (outcome, behind) = step(player)?;
-    let view = settle(player, traffic)?;
+    let (view, restless) = settle(player, traffic)?;
     Ok(Done {
         outcome,
         behind,
         view,
+        restless,
         happened: player.happened(),
     })
 }
 
-/// Carries the next instruction out, and tells what is seen of the node then.
+/// Executes the next instruction, and returns its outcome and the view of the node then.
 fn step(player: &mut Player) -> Result<(Outcome, NodeView), Halt>
     ensures led { IfOk result (λ it. Leads (ComesTo (Advance false) it.0) player.old player.new) }
     ensures seen { IfOk result (λ it. it.1 ≡ node_view (stage_of player.new).node) }
@@ -161,16 +164,17 @@ fn step(player: &mut Player) -> Result<(Outcome, NodeView), Halt>
     Ok((outcome, behind))
 }
 
-/// Plays the traffic, and tells what is seen of the node then.
-fn settle(player: &mut Player, traffic: &[Arrival]) -> Result<NodeView, Halt>
+/// Plays the traffic. Returns the view of the node then, and the process that still has a message to take, if one has.
+fn settle(player: &mut Player, traffic: &[Arrival]) -> Result<(NodeView, Option<u64>), Halt>
     ensures led { OnOk result (Leads (Plays traffic.now) player.old player.new) }
-    ensures seen { IfOk result (λ view. view ≡ node_view (stage_of player.new).node) }
+    ensures seen { IfOk result (λ it. IsSettled it.0 it.1 (stage_of player.new)) }
 {
     player.play(traffic)?;
-    Ok(player.view()?)
+    let view = player.view()?;
+    Ok((view, player.restless()))
 }
 
-/// Carries an instruction out and goes back to where it stood, and tells whether the node is as it was seen before.
+/// Executes an instruction and goes back to the bookmark, and returns whether the node is as it was seen before.
 fn is_undone(player: &mut Player, bookmark: Bookmark, before: &NodeView) -> Result<bool, Halt>
     requires bookmark { IsBookmark bookmark player.old }
     requires before { before.now ≡ node_view (here player.old.journal).node }
@@ -182,7 +186,7 @@ fn is_undone(player: &mut Player, bookmark: Bookmark, before: &NodeView) -> Resu
     Ok(player.view()?.same(before))
 }
 
-/// The node behind the last instruction.
+/// Returns the node after the last instruction.
 fn last_view<'a>(stations: &'a [Station], begun: &'a NodeView) -> &'a NodeView
     ensures { result.now ≡ view_of (slice_get stations.now (length stations.now - 1)) begun.now }
 {
@@ -192,11 +196,11 @@ fn last_view<'a>(stations: &'a [Station], begun: &'a NodeView) -> &'a NodeView
     }
 }
 
-/// Goes through the script that has begun, up to its end.
+/// Runs the script that has begun to its end.
 ///
 /// # Errors
 ///
-/// `Full` where the instructions can't be counted.
+/// `Full` if the instructions can't be counted.
 fn go_through<W: Watch>(
     player: &mut Player,
     traffic: &[Arrival],
@@ -237,7 +241,7 @@ pub(crate) fn go<W: Watch>(
     }
 }
 
-/// Begins to install the release of a version; or tells why that is refused.
+/// Begins to install the release of a version. Returns the refusal, if the node refuses it.
 fn install(player: &mut Player, vsn: &str) -> Result<Option<Refusal>, Halt>
     ensures { IfOk result (λ why. Leads (Begins (chars vsn.now) why) player.old player.new) }
 {
@@ -248,7 +252,7 @@ fn install(player: &mut Player, vsn: &str) -> Result<Option<Refusal>, Halt>
     }
 }
 
-/// What is seen where nothing was installed.
+/// Returns the way on which nothing was installed.
 fn go_nowhere(player: &Player, why: Refusal) -> Result<Way, Halt>
     ensures { IfOk result (λ way. IsRefusedWay why (stage_of player.now) way) }
 {
@@ -261,7 +265,7 @@ fn go_nowhere(player: &Player, why: Refusal) -> Result<Way, Halt>
     })
 }
 
-/// Goes through the script that has begun, and tells who lingers in old code then.
+/// Runs the script that has begun to its end, and returns the way, with the processes that linger in old code then.
 fn go_to_end<W: Watch>(player: &mut Player, traffic: &[Arrival], watch: &mut W) -> Result<Way, Halt>
     ensures way { IfOk result (λ way. IsWholeWay traffic.now (stage_of player.old) way (stage_of player.new)) }
     ensures journal { OnOk result (Extends player.old.journal player.new.journal) }

@@ -1,4 +1,4 @@
--- What has come to some findings, step by step.
+-- Findings that are added to a list, step by step.
 use Rattle.std.proofs.Common.{◌≡◌, ◌≢◌, ℕ, ◌+◌, ◌<◌, ◌≤◌, List, [], ◌∷◌, ◌++◌, Contains, ◌⊎◌, ◌↔◌, inl, inr, Some, length, get_or}
 use Rattle.std.proofs.Common.{refl, sym, subst, arith}
 use Rattle.std.proofs.lemmas.Bool.{cases_lt}
@@ -9,14 +9,14 @@ use Rattle.std.specs.List.{slice_get}
 use Rattle.upgrade_review.specs.Findings.{AreDifferent}
 use Rattle.upgrade_review.specs.Gathering.{Adds, FromEach}
 
--- nothing comes where there is nothing of a kind
+-- nothing is added if there is nothing of a kind
 pub adds_nothing : {F : Type 0} (P : F → Type 0) (found : List F) → ((f : F) → P f → ⊥) → Adds P found found
 adds_nothing P found never = record {
   all = λ f. ((λ there. inl there), (λ both. elim both [ inl there ↦ there | inr p ↦ absurd (never f p) ]));
   once = λ different. different;
 }
 
--- what comes of a kind comes of each kind that is the same
+-- what is added of a kind is added of each equivalent kind
 pub adds_alike : {F : Type 0} (P Q : F → Type 0) (old new : List F) → ((f : F) → P f → Q f) → ((f : F) → Q f → P f) →
     Adds P old new → Adds Q old new
 adds_alike P Q old new to from adds = record {
@@ -44,7 +44,7 @@ adds_both P Q old between new first second = record {
   once = λ different. second.once (first.once different);
 }
 
--- a finding that isn't there is put behind
+-- a finding that isn't there is appended
 pub adds_new : {F : Type 0} (finding : F) (found : List F) → (Contains found finding → ⊥) →
     Adds (λ f. f ≡ finding) found (found ++ finding ∷ [])
 adds_new finding found absent = record {
@@ -69,14 +69,14 @@ adds_known finding found there = record {
   once = λ different. different;
 }
 
--- there is nothing among no findings, and none of them is twice
+-- there is nothing among no findings, and none of them is there twice
 none_there : {F : Type 0} (f : F) → Contains [] f → ⊥
 none_there f there = omega (arith, there.1)
 
 pub none_twice : {F : Type 0} → AreDifferent {F = F} []
 none_twice i j d below within = absurd (omega arith)
 
--- what has come to nothing is all that is there
+-- what is added to the empty list is all that is there
 pub from_nothing : {F : Type 0} (P : F → Type 0) (found : List F) → Adds P [] found → (f : F) → Contains found f ↔ P f
 from_nothing P found adds f = (
   (λ there. elim ((adds.all f).0 there) [ inl none ↦ absurd (none_there f none) | inr p ↦ p ]),
@@ -88,7 +88,7 @@ abbrev pub UpTo : {X F : Type 0} → (ℕ → X → F → Type 0) → List X →
 UpTo {X} {F} R xs n f = (i : ℕ) × (x : X) × (i < n) × (slice_get xs i ≡ Some x) × R i x f
 
 module _ {X F : Type 0} (R : ℕ → X → F → Type 0) (xs : List X) where
-  -- before the first item nothing has come
+  -- before the first item nothing is added
   pub begins : (found : List F) → Adds (UpTo R xs 0) found found
   begins found = adds_nothing (UpTo R xs 0) found (λ f none. omega (arith, none.2))
 
@@ -104,7 +104,7 @@ module _ {X F : Type 0} (R : ℕ → X → F → Type 0) (xs : List X) where
         inr (subst (λ y. R n y f) item (subst (λ i. R i w.1 f) at w.4))
   ]
 
-  -- the next item has its turn
+  -- the next item
   pub goes_on : (n : ℕ) (x : X) (old between new : List F) → n < length xs → x ≡ get_or xs n x →
       Adds (UpTo R xs n) old between → Adds (R n x) between new → Adds (UpTo R xs (n + 1)) old new
   goes_on n x old between new within item before here =
@@ -112,7 +112,7 @@ module _ {X F : Type 0} (R : ℕ → X → F → Type 0) (xs : List X) where
       adds_alike (λ f. UpTo R xs n f ⊎ R n x f) (UpTo R xs (n + 1)) old new (λ f both. more n x f is both)
       (λ f w. less n x f is w) (adds_both (UpTo R xs n) (R n x) old between new before here)
 
-  -- behind the last item all have had their turn
+  -- after the last item all items are done
   pub ends : (n : ℕ) (old new : List F) → length xs ≤ n → Adds (UpTo R xs n) old new → Adds (FromEach R xs) old new
   ends n old new all = adds_alike (UpTo R xs n) (FromEach R xs) old new
       (λ f w. (w.0, w.1, w.3, w.4))

@@ -1,4 +1,7 @@
 pub mod Adding
-pub mod Differences
+pub mod Calling
 pub mod Noting
+pub mod Through
+pub mod Unanswered
 pub mod Whole
+pub mod Windows

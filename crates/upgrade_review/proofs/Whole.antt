@@ -1,4 +1,4 @@
--- What is found of the parts of an upgrade is what is found of it.
+-- The findings about the parts of an upgrade are the findings about the upgrade.
 use Rattle.std.proofs.Common.{◌≡◌, ℕ, List, [], None, Some, Option, Contains, ◌⊎◌, ◌↔◌, inl, inr, length, refl, sym, subst}
 use Rattle.std.proofs.lemmas.Option.{get_or_from_slice_get, none-some, slice_get_read, slice_get_within}
 use Rattle.std.specs.List.{slice_get}
@@ -100,7 +100,7 @@ module _ (left installed : Release) (script : List Low) (f : Finding) where
   in_parts (restarts i low app at by before is) = inr (i, low, at, start_at i low app by (inr (before, is)))
   in_parts (stops i low app at by behind is) = inr (i, low, at, stop_at i low app by (behind, is))
 
--- what has come of the modules, and then of the instructions, is what is found
+-- the findings about the modules, and then those about the instructions, are all findings
 pub found_of_parts : (left installed : Release) (script : List Low) (before between found : List Finding) → before ≡ [] →
     Adds (IsNotLoadedIn left installed script) before between → Adds (IsFoundIn left installed script) between found →
     (f : Finding) → Contains found f ↔ IsFound left installed script f

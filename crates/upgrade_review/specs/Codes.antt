@@ -1,4 +1,4 @@
--- The code of modules, in the releases that a script leads from and to, and while it runs. Sources stand for object code here.
+-- The code of modules in the releases that a script leads from and to, and while it runs. Sources represent object code here.
 use Rattle.std.specs.Prelude.{ℕ, Bool, false, ◌&&◌, if◌then◌else◌, List, Option, None, Some, is_some}
 use Rattle.std.specs.List.{list_any}
 use Rattle.std.specs.Str.{bytes_eq}
@@ -14,8 +14,8 @@ use Rattle.upgrade_review.specs.Scripts.{is_loaded, is_started}
 abbrev pub code_in : List ℕ → Release → Option Forms
 code_in m r = source_in m (sources r)
 
--- The code that a module has behind these instructions of a script: that of the release that is installed, once it is loaded,
--- and else that of the release that is left.
+-- The code that a module has after these instructions of a script: that of the release that is installed, if they load it, and
+-- else that of the release that is left.
 abbrev pub code_behind : List ℕ → List Low → Release → Release → Option Forms
 code_behind m before left installed = if is_loaded m before then code_in m installed else code_in m left
 

@@ -17,29 +17,29 @@ use Rattle.upgrade_review.specs.declared.finding.Finding.TheVariants.{Restarts, 
 
 -- A finding about a script that leads from a release to another one, which it installs.
 pub data IsFound (left installed : Release) (script : List Low) (f : Finding) : Type 0 where
-  -- An application has a module that the release that is left has not, or not so, and the script doesn't load it.
+  -- An application has a module that the release that is left lacks or has other code of, and the script doesn't load it.
   not_loaded : (a : AppFiles) (c : Forms) → Contains installed.apps a → Contains a.modules c → code_in c.name left ≢ Some c →
       is_loaded c.name script ≡ false → f ≡ NotLoaded a.spec.name c.name → IsFound left installed script f
-  -- A module is loaded that both releases have alike, and no application that has it is started.
+  -- A module is loaded, both releases have the same code of it, and no application that has it is started.
   loaded_again : (i : ℕ) (m : List ℕ) (pre post : Purge) (c : Forms) → slice_get script i ≡ Some (Load m pre post) →
       code_in m left ≡ Some c → code_in m installed ≡ Some c → is_started_with m installed script ≡ false →
       f ≡ LoadedAgain i m → IsFound left installed script f
-  -- Processes are to change their state by a module that exports no `code_change/3` then.
+  -- Processes are to change their state by a module that exports no `code_change/3` at that point.
   no_code_change : (i : ℕ) (way : Direction) (changes : List ModuleChange) (change : ModuleChange) (c : Forms) →
       slice_get script i ≡ Some (CodeChange way changes) → Contains changes change →
       is_callback_module change.name installed ≡ false → code_behind change.name (take i script) left installed ≡ Some c →
       exported_of (codes "code_change") 3 c ≡ None → f ≡ NoCodeChange i change.name → IsFound left installed script f
-  -- An application is started that none of the instructions before stops.
+  -- An application is started, and no instruction before stops it.
   starts : (i : ℕ) (low : Low) (app : List ℕ) → slice_get script i ≡ Some low → started_by low ≡ Some app →
       is_stopped app (take i script) ≡ false → f ≡ Starts i app → IsFound left installed script f
-  -- An application is started that one of the instructions before stops.
+  -- An application is started, and an instruction before stops it.
   restarts : (i : ℕ) (low : Low) (app : List ℕ) → slice_get script i ≡ Some low → started_by low ≡ Some app →
       is_stopped app (take i script) ≡ true → f ≡ Restarts i app → IsFound left installed script f
-  -- An application is stopped that none of the instructions behind starts.
+  -- An application is stopped, and no instruction after it starts it.
   stops : (i : ℕ) (low : Low) (app : List ℕ) → slice_get script i ≡ Some low → stopped_by low ≡ Some app →
       is_started app (drop (i + 1) script) ≡ false → f ≡ Stops i app → IsFound left installed script f
 
--- A finding about the way back of a script: the script that leads down again, if there is one.
+-- A finding about the way back of a script, given the script that leads down again, if there is one.
 pub data IsAmiss (up : List Low) (down : Option (List Low)) (f : Finding) : Type 0 where
   -- There is none.
   no_way_down : down ≡ None → f ≡ NoWayDown → IsAmiss up down f
@@ -48,6 +48,6 @@ pub data IsAmiss (up : List Low) (down : Option (List Low)) (f : Finding) : Type
       slice_get up i ≡ Some (Load m pre post) → is_loaded m script ≡ false → is_removed m script ≡ false → f ≡ NotUndone i m →
       IsAmiss up down f
 
--- No finding stands at two indices.
+-- No finding is at two indices.
 abbrev pub AreDifferent : {F : Type 0} → List F → Type 0
 AreDifferent found = AllPairs (λ one another. one ≢ another) found

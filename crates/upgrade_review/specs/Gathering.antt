@@ -1,5 +1,5 @@
--- How findings are gathered: behind those that are there, each once. What follows is told of the parts of an upgrade, as
--- `Findings` tells it of the whole.
+-- How findings are added to a list: at its end, each once. This is defined for the parts of an upgrade, as `Findings` does for
+-- the whole.
 use Rattle.std.specs.Prelude.{◌≡◌, ◌≢◌, ◌↔◌, ◌⊎◌, ℕ, ◌+◌, true, false}
 use Rattle.std.specs.Prelude.{List, codes, Contains, Option, None, Some, slice_get, take, drop}
 use Rattle.erl_ir.specs.Module.{Forms, exported_of}
@@ -16,7 +16,7 @@ use Rattle.upgrade_review.specs.declared.finding.Finding.{Finding}
 use Rattle.upgrade_review.specs.declared.finding.Finding.TheVariants.{LoadedAgain, NoCodeChange, NotLoaded, NotUndone}
 use Rattle.upgrade_review.specs.declared.finding.Finding.TheVariants.{Restarts, Starts, Stops}
 
--- Just the findings of a kind have come to those that were there, and none of them stands twice for it.
+-- Exactly the findings of a kind are added to those that were there, and none of them is there twice because of it.
 pub record Adds {F : Type 0} (P : F → Type 0) (old new : List F) : Type 0 where
   pub all : (f : F) → Contains new f ↔ (Contains old f ⊎ P f)
   pub once : AreDifferent old → AreDifferent new
@@ -25,7 +25,7 @@ pub record Adds {F : Type 0} (P : F → Type 0) (old new : List F) : Type 0 wher
 abbrev pub FromEach : {X F : Type 0} → (ℕ → X → F → Type 0) → List X → F → Type 0
 FromEach {X} {F} R xs f = (i : ℕ) × (x : X) × (slice_get xs i ≡ Some x) × R i x f
 
--- A module of an application isn't as the release that is left has it, and the script doesn't load it.
+-- A module of an application: the release that is left lacks it or has other code of it, and the script doesn't load it.
 abbrev pub IsNotLoaded : Release → List Low → List ℕ → Forms → Finding → Type 0
 IsNotLoaded left script app c f =
     (code_in c.name left ≢ Some c) × (is_loaded c.name script ≡ false) × (f ≡ NotLoaded app c.name)
@@ -38,7 +38,7 @@ IsNotLoadedOf left script files f = FromEach (λ i c. IsNotLoaded left script fi
 abbrev pub IsNotLoadedIn : Release → Release → List Low → Finding → Type 0
 IsNotLoadedIn left installed script f = FromEach (λ i files. IsNotLoadedOf left script files) installed.apps f
 
--- Both releases have a module, and have it alike.
+-- Both releases have a module, with the same code.
 abbrev pub IsSameInBoth : List ℕ → Release → Release → Type 0
 IsSameInBoth m left installed = (c : Forms) × (code_in m left ≡ Some c) × (code_in m installed ≡ Some c)
 
@@ -51,7 +51,8 @@ IsLoadedAgain left installed script i m f =
 abbrev pub LacksCodeChange : Option Forms → Type 0
 LacksCodeChange code = (c : Forms) × (code ≡ Some c) × (exported_of (codes "code_change") 3 c ≡ None)
 
--- The processes of a module are to change their state at an index, and it lacks the function for it; of each of some modules.
+-- The processes of a module are to change their state at an index, and it lacks the function for it; the same for each of some
+-- modules.
 
 abbrev pub IsUnchanged : Release → Release → List Low → ℕ → List ℕ → Finding → Type 0
 IsUnchanged left installed script i m f = (is_callback_module m installed ≡ false) ×
@@ -66,7 +67,7 @@ abbrev pub IsStart : List Low → ℕ → List ℕ → Finding → Type 0
 IsStart script i app f = ((is_stopped app (take i script) ≡ false) × (f ≡ Starts i app)) ⊎
     ((is_stopped app (take i script) ≡ true) × (f ≡ Restarts i app))
 
--- An application is stopped at an index, and isn't started behind it.
+-- An application is stopped at an index, and no instruction after it starts it.
 abbrev pub IsStop : List Low → ℕ → List ℕ → Finding → Type 0
 IsStop script i app f = (is_started app (drop (i + 1) script) ≡ false) × (f ≡ Stops i app)
 

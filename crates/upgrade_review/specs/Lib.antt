@@ -1,5 +1,7 @@
+pub mod Calls
 pub mod Codes
 pub mod Findings
 pub mod Gathering
-pub mod OnOtp
+pub mod Interfaces
 pub mod Scripts
+pub mod Suspended

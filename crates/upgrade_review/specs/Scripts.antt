@@ -1,4 +1,4 @@
--- What a script does to modules and to applications (appup(4), Low-Level Instructions; application(3)).
+-- The effects of a script on modules and applications (appup(4), Low-Level Instructions; application(3)).
 use Rattle.std.specs.Prelude.{ℕ, Bool, false, ◌&&◌, if◌then◌else◌, List, codes, Option, None, Some}
 use Rattle.std.specs.List.{list_any}
 use Rattle.std.specs.Str.{bytes_eq}
@@ -44,20 +44,20 @@ is_loaded m script = list_any (loads m) script
 abbrev pub is_removed : List ℕ → List Low → Bool
 is_removed m script = list_any (removes m) script
 
--- The application that `application:start` is called for with these arguments: `[App]` or `[App,Type]`.
+-- The application that `application:start` with these arguments starts: `[App]` or `[App,Type]`.
 abbrev pub app_of_start : Trees → Option (List ℕ)
 app_of_start none = None
 app_of_start (more app none) = atom_of app
 app_of_start (more app (more type none)) = atom_of app
 app_of_start (more app (more type (more another others))) = None
 
--- The application that `application:stop` is called for with these arguments: `[App]`.
+-- The application that `application:stop` with these arguments stops: `[App]`.
 abbrev pub app_of_stop : Trees → Option (List ℕ)
 app_of_stop none = None
 app_of_stop (more app none) = atom_of app
 app_of_stop (more app (more another others)) = None
 
--- Whether a call is one of a function of the module `application`.
+-- Whether a call is a call of a function of the module `application`.
 abbrev pub is_of_application : List ℕ → List ℕ → List ℕ → Bool
 is_of_application wanted name function = bytes_eq name (codes "application") && bytes_eq function wanted
 

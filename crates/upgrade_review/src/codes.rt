@@ -1,4 +1,4 @@
-// The code of modules, in the releases that a script leads from and to, and while it runs.
+// The code of modules in the releases that a script leads from and to, and while it runs.
 ghost use Rattle.std.specs.Prelude.{◌≡◌, ◌↔◌, IfOk, IsTrue, None, Some, codes};
 ghost use Rattle.std.specs.Option.{option_copied};
 ghost use Rattle.erl_ir.specs.Module.{exported_of};
@@ -16,14 +16,14 @@ use release_table::{AppFiles, Release};
 use std::alloc::{AllocError, Global};
 use values::Same;
 
-/// The source of a module among these.
+/// Returns the source of a module among these.
 fn source_in<'a>(sources: &'a [Module], name: &Atom) -> Option<&'a Module>
     ensures { option_copied result ≡ source_in name.now sources.now }
 {
     sources.iter().find(|source| *source.name() == *name)
 }
 
-/// The code of a module in a release.
+/// Returns the code of a module in a release.
 pub(crate) fn code_in<'a>(release: &'a Release, name: &Atom) -> Option<&'a Module>
     ensures { option_copied result ≡ code_in name.now release.now }
 {
@@ -35,7 +35,7 @@ pub(crate) fn code_in<'a>(release: &'a Release, name: &Atom) -> Option<&'a Modul
     None
 }
 
-/// Whether what was found is this code.
+/// Returns whether what was found is this code.
 pub(crate) fn is_code(found: Option<&Module>, code: &Module) -> bool
     ensures { IsTrue result ↔ (option_copied found.entry ≡ Some code.now) }
 {
@@ -45,7 +45,7 @@ pub(crate) fn is_code(found: Option<&Module>, code: &Module) -> bool
     }
 }
 
-/// Whether both releases have a module, and have it alike.
+/// Returns whether both releases have a module, with the same code.
 pub(crate) fn is_same_in_both(left: &Release, installed: &Release, name: &Atom) -> bool
     ensures { IsTrue result ↔ IsSameInBoth name.now left.now installed.now }
 {
@@ -55,7 +55,7 @@ pub(crate) fn is_same_in_both(left: &Release, installed: &Release, name: &Atom) 
     }
 }
 
-/// The code that a module has behind these instructions.
+/// Returns the code that a module has after these instructions.
 fn code_behind<'a>(
     left: &'a Release,
     installed: &'a Release,
@@ -71,7 +71,7 @@ fn code_behind<'a>(
     }
 }
 
-/// Whether code lacks `code_change/3`, if there is any.
+/// Returns whether code lacks `code_change/3`, if there is any.
 fn lacks_code_change(alloc: Global, code: Option<&Module>) -> Result<bool, AllocError>
     ensures { IfOk result (λ lacks. IsTrue lacks ↔ LacksCodeChange (option_copied code.entry)) }
 {
@@ -82,7 +82,7 @@ fn lacks_code_change(alloc: Global, code: Option<&Module>) -> Result<bool, Alloc
     Ok(!code.exports(&name, 3))
 }
 
-/// Whether the code that a module has behind these instructions lacks `code_change/3`.
+/// Returns whether the code that a module has after these instructions lacks `code_change/3`.
 pub(crate) fn lacks_behind(
     alloc: Global,
     left: &Release,
@@ -95,14 +95,14 @@ pub(crate) fn lacks_behind(
     lacks_code_change(alloc, code_behind(left, installed, before, name))
 }
 
-/// Whether an application has a module.
+/// Returns whether an application has a module.
 fn has_module(files: &AppFiles, name: &Atom) -> bool
     ensures { result ≡ has_module name.now files.now }
 {
     source_in(files.modules.as_slice(), name).is_some()
 }
 
-/// Whether a script starts an application of a release that has a module.
+/// Returns whether a script starts an application of a release that has a module.
 pub(crate) fn is_started_with(release: &Release, script: &[Low], name: &Atom) -> bool
     ensures { result ≡ is_started_with name.now release.now script.now }
 {
@@ -110,7 +110,7 @@ pub(crate) fn is_started_with(release: &Release, script: &[Low], name: &Atom) ->
     apps.iter().any(|files| has_module(files, name) && is_started(script, &files.spec.name))
 }
 
-/// Whether a module is this callback module of an application.
+/// Returns whether a module is this callback module of an application.
 pub fn is_start_module(start: &Option<StartModule>, name: &Atom) -> bool
     ensures { result ≡ is_start_module name.now start.now }
 {
@@ -120,7 +120,7 @@ pub fn is_start_module(start: &Option<StartModule>, name: &Atom) -> bool
     }
 }
 
-/// Whether a module is the callback module of an application of a release.
+/// Returns whether a module is the callback module of an application of a release.
 pub(crate) fn is_callback_module(release: &Release, name: &Atom) -> bool
     ensures { result ≡ is_callback_module name.now release.now }
 {

@@ -1,4 +1,4 @@
-// An upgrade as a whole.
+// The review of an upgrade as a whole.
 ghost use Rattle.std.specs.Prelude.{◌≡◌, ◌↔◌, Contains, IfOk};
 ghost use Rattle.std.specs.Option.{option_copied};
 ghost use Rattle.upgrade_review.specs.Findings.{AreDifferent, IsAmiss, IsFound};
@@ -12,13 +12,13 @@ use low_instructions::Low;
 use release_table::Release;
 use std::alloc::{AllocError, Global};
 
-/// What is likely wrong with a script that leads from a release to another one, which it installs: first of the modules of the
-/// release that is installed, in its order, and then of the instructions, in theirs. Each finding is told once. The script may
-/// lead up or down: the release that is left is the one that runs before.
+/// Returns what is likely wrong with a script that leads from a release to another one, which it installs. The findings about
+/// the modules of the release that is installed come first, in its order, and then those about the instructions, in theirs. Each
+/// finding is returned once. The script may lead up or down: the release that is left is the one that runs before.
 ///
 /// # Errors
 ///
-/// `AllocError` where memory is refused.
+/// `AllocError` if an allocation fails.
 pub fn look_through(
     alloc: Global,
     left: &Release,
@@ -34,12 +34,12 @@ pub fn look_through(
     Ok(found)
 }
 
-/// What is likely wrong with the way back of a script: beside the script `up`, the one that leads down again, if there is one.
-/// Each finding is told once.
+/// Returns what is likely wrong with the way back of the script `up`, given the script that leads down again, if there is one.
+/// Each finding is returned once.
 ///
 /// # Errors
 ///
-/// `AllocError` where memory is refused.
+/// `AllocError` if an allocation fails.
 pub fn look_back(
     alloc: Global,
     up: &[Low],

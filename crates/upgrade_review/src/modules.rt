@@ -1,4 +1,4 @@
-// Modules that an upgrade leaves as they are.
+// Modules that an upgrade leaves unchanged.
 ghost use Rattle.std.specs.Prelude.{OnOk};
 ghost use Rattle.upgrade_review.specs.Gathering.{Adds, IsNotLoaded, IsNotLoadedIn, IsNotLoadedOf};
 
@@ -13,7 +13,8 @@ use release_table::{AppFiles, Release};
 use std::alloc::{AllocError, Global};
 use values::Duplicate;
 
-/// Notes a module of an application that isn't as the release that is left has it, and that nothing loads.
+/// Notes a module of an application, if the release that is left lacks it or has other code of it, and the script doesn't load
+/// it.
 fn note_module(
     alloc: Global,
     left: &Release,
@@ -38,7 +39,8 @@ fn note_module(
     )
 }
 
-/// Notes the modules of an application that aren't as the release that is left has them, and that nothing loads.
+/// Notes the modules of an application that the release that is left lacks or has other code of, and that the script doesn't
+/// load.
 fn note_modules(
     alloc: Global,
     left: &Release,
@@ -55,7 +57,7 @@ fn note_modules(
     Ok(())
 }
 
-/// Notes the modules of a release that aren't as the release that is left has them, and that nothing loads.
+/// Notes the modules of a release that the release that is left lacks or has other code of, and that the script doesn't load.
 pub(crate) fn note_not_loaded(
     alloc: Global,
     left: &Release,

@@ -1,4 +1,4 @@
-// What is found of the instructions of a script, one by one.
+// Findings about the instructions of a script.
 ghost use Rattle.std.specs.Prelude.{◌<◌, length, OnOk};
 ghost use Rattle.std.specs.Option.{option_copied};
 ghost use Rattle.upgrade_review.specs.Gathering.{Adds, FromEach, IsFoundAt, IsFoundIn, IsLoadedAgain, IsNotUndone, IsNotUndoneAt};
@@ -14,7 +14,7 @@ use release_table::Release;
 use std::alloc::{AllocError, Global};
 use values::Duplicate;
 
-/// Notes that a module is loaded which both releases have alike, where no application that has it is started.
+/// Notes that a module is loaded, if both releases have the same code of it and no application that has it is started.
 fn note_load(
     alloc: Global,
     left: &Release,
@@ -34,7 +34,7 @@ fn note_load(
     note(found, Finding::LoadedAgain { index, module })
 }
 
-/// Notes that processes are to change their state by a module that lacks `code_change/3` then.
+/// Notes that processes are to change their state by a module, if its code lacks `code_change/3` at that point.
 fn note_change(
     alloc: Global,
     left: &Release,
@@ -57,7 +57,7 @@ fn note_change(
     note(found, Finding::NoCodeChange { index, module })
 }
 
-/// Notes those of some modules that lack `code_change/3` where processes are to change their state by them.
+/// Notes the modules of a code change that lack `code_change/3` at that point.
 fn note_changes(
     alloc: Global,
     left: &Release,
@@ -148,7 +148,7 @@ fn note_stopped(
     }
 }
 
-/// Notes what is found of the instruction at an index.
+/// Notes the findings about the instruction at an index.
 fn note_instruction(
     alloc: Global,
     left: &Release,
@@ -177,7 +177,7 @@ fn note_instruction(
     }
 }
 
-/// Notes what is found of the instructions of a script.
+/// Notes the findings about the instructions of a script.
 pub(crate) fn note_instructions(
     alloc: Global,
     left: &Release,

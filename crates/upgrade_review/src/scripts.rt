@@ -1,4 +1,4 @@
-// What scripts do to modules and to applications.
+// The effects of scripts on modules and applications.
 ghost use Rattle.std.specs.Prelude.{◌≡◌};
 ghost use Rattle.std.specs.Option.{option_copied};
 ghost use Rattle.erl_term.specs.Accessors.{atom_of};
@@ -9,7 +9,7 @@ ghost use Rattle.upgrade_review.specs.Scripts.{loads, removes, started_by, start
 use erl_term::{Atom, Term, one, two};
 use low_instructions::Low;
 
-/// Whether an instruction makes object code the current code of a module.
+/// Returns whether an instruction makes object code the current code of a module.
 fn loads(low: &Low, name: &Atom) -> bool
     ensures { result ≡ loads name.now low.now }
 {
@@ -21,7 +21,7 @@ fn loads(low: &Low, name: &Atom) -> bool
     }
 }
 
-/// Whether an instruction makes the current code of a module old.
+/// Returns whether an instruction makes the current code of a module old.
 fn removes(low: &Low, name: &Atom) -> bool
     ensures { result ≡ removes name.now low.now }
 {
@@ -33,21 +33,21 @@ fn removes(low: &Low, name: &Atom) -> bool
     }
 }
 
-/// Whether an instruction loads a module.
+/// Returns whether an instruction loads a module.
 pub(crate) fn is_loaded(script: &[Low], name: &Atom) -> bool
     ensures { result ≡ is_loaded name.now script.now }
 {
     script.iter().any(|low| loads(low, name))
 }
 
-/// Whether an instruction removes a module.
+/// Returns whether an instruction removes a module.
 pub(crate) fn is_removed(script: &[Low], name: &Atom) -> bool
     ensures { result ≡ is_removed name.now script.now }
 {
     script.iter().any(|low| removes(low, name))
 }
 
-/// The application that `application:start` is called for with these arguments.
+/// Returns the application that `application:start` with these arguments starts.
 fn app_of_start(arguments: &[Term]) -> Option<&Atom>
     ensures { option_copied result ≡ app_of_start (trees arguments.now) }
 {
@@ -57,14 +57,14 @@ fn app_of_start(arguments: &[Term]) -> Option<&Atom>
     }
 }
 
-/// The application that `application:stop` is called for with these arguments.
+/// Returns the application that `application:stop` with these arguments stops.
 fn app_of_stop(arguments: &[Term]) -> Option<&Atom>
     ensures { option_copied result ≡ app_of_stop (trees arguments.now) }
 {
     one(arguments)?.as_atom()
 }
 
-/// The application that an instruction starts.
+/// Returns the application that an instruction starts.
 pub(crate) fn started_by(low: &Low) -> Option<&Atom>
     ensures { option_copied result ≡ started_by low.now }
 {
@@ -86,7 +86,7 @@ pub(crate) fn started_by(low: &Low) -> Option<&Atom>
     }
 }
 
-/// The application that an instruction stops.
+/// Returns the application that an instruction stops.
 pub(crate) fn stopped_by(low: &Low) -> Option<&Atom>
     ensures { option_copied result ≡ stopped_by low.now }
 {
@@ -108,7 +108,7 @@ pub(crate) fn stopped_by(low: &Low) -> Option<&Atom>
     }
 }
 
-/// Whether this is a name.
+/// Returns whether `found` is this name.
 fn is_name(found: Option<&Atom>, name: &Atom) -> bool
     ensures { result ≡ is_name name.now (option_copied found.entry) }
 {
@@ -118,28 +118,28 @@ fn is_name(found: Option<&Atom>, name: &Atom) -> bool
     }
 }
 
-/// Whether an instruction starts an application.
+/// Returns whether an instruction starts an application.
 fn starts(low: &Low, app: &Atom) -> bool
     ensures { result ≡ starts app.now low.now }
 {
     is_name(started_by(low), app)
 }
 
-/// Whether an instruction stops an application.
+/// Returns whether an instruction stops an application.
 fn stops(low: &Low, app: &Atom) -> bool
     ensures { result ≡ stops app.now low.now }
 {
     is_name(stopped_by(low), app)
 }
 
-/// Whether an instruction of a script starts an application.
+/// Returns whether an instruction of a script starts an application.
 pub(crate) fn is_started(script: &[Low], app: &Atom) -> bool
     ensures { result ≡ is_started app.now script.now }
 {
     script.iter().any(|low| starts(low, app))
 }
 
-/// Whether an instruction of a script stops an application.
+/// Returns whether an instruction of a script stops an application.
 pub(crate) fn is_stopped(script: &[Low], app: &Atom) -> bool
     ensures { result ≡ is_stopped app.now script.now }
 {

@@ -1,4 +1,4 @@
--- Those of one module more in each turn.
+-- Those of one module more.
 use Rattle.std.proofs.Common.{◌≡◌, ◌∙◌, ap, sym, ◌++◌, List, ℕ, Some}
 use Rattle.std.specs.List.{slice_get}
 use Rattle.code_server.specs.declared.modules.Slots.{Slots}

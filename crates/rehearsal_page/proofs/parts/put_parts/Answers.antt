@@ -1,4 +1,4 @@
--- One piece more in each turn.
+-- One piece more.
 use Rattle.std.proofs.Common.{sym, refl, append-nil, []}
 use Rattle.rehearsal_page.specs.Escaping.{brackets}
 use Rattle.rehearsal_page.specs.Page.{StandsBefore}

@@ -1,4 +1,4 @@
--- The pieces so far are appended, and their markup alone has brackets.
+-- The pieces so far are appended, and only their markup has brackets.
 use Rattle.std.proofs.Common.{◌≡◌, ◌++◌, take}
 use Rattle.rehearsal_page.specs.Escaping.{brackets}
 use Rattle.rehearsal_page.specs.Parts.{Adds, AreWritten, markup_of}

@@ -1,4 +1,4 @@
--- What stood there still stands.
+-- The old bytes stay first.
 use Rattle.rehearsal_page.specs.Page.{StandsBefore}
 use Rattle.rehearsal_page.proofs.steps.put_process_items.Given as goal
 

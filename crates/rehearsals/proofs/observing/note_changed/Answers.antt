@@ -1,4 +1,4 @@
--- Each pid has its turn.
+-- Each pid in turn.
 use Rattle.std.proofs.Common.{◌∙◌, ℕ, ◌+◌, ◌≤◌, Option, ap, sym, subst, length, arith}
 use Rattle.std.proofs.lemmas.Bool.{false≢true}
 use Rattle.node_views.proofs.Found.{nobody_past}

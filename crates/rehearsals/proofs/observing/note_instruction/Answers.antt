@@ -1,8 +1,10 @@
--- First one kind, and then the other.
+-- First one kind, and then the others.
+use Rattle.std.proofs.Common.{◌⊎◌}
 use Rattle.upgrade_review.proofs.Adding.{adds_both}
 use Rattle.upgrade_review.proofs.Noting.{on_ok}
 use Rattle.upgrade_review.specs.Gathering.{Adds}
-use Rattle.rehearsals.specs.Observing.{IsKill, IsNobody, IsOfInstruction}
+use Rattle.rehearsals.specs.Observing.{IsKill, IsNobody, IsOfInstruction, IsOtherwiseOnOtp}
+use Rattle.rehearsals.specs.declared.observing.Observation.{Observation}
 use Rattle.rehearsals.proofs.observing.note_instruction.Goals as goal
 
 pub returns : goal.returns
@@ -13,7 +15,10 @@ returns c =
     let before = c.args.before.now in
     let old = c.args.found.now.items in
     let between = c.note_nobody.new.found.items in
-    let new = c.note_killed.new.found.items in
-    on_ok c.note_killed.result (Adds (IsKill way i before s) between new) (Adds (IsOfInstruction way i before s) old new)
-    (λ kills. adds_both (IsNobody way i s) (IsKill way i before s) old between new c.in_ok-note_nobody.ensures kills)
-    c.note_killed.ensures
+    let killed = c.note_killed.new.found.items in
+    let new = c.note_otherwise.new.found.items in
+    let Q : Observation → Type 0 = λ o. IsKill way i before s o ⊎ IsOtherwiseOnOtp way i before s o in
+    on_ok c.note_otherwise.result (Adds (IsOtherwiseOnOtp way i before s) killed new) (Adds (IsOfInstruction way i before s) old new)
+    (λ last. adds_both (IsNobody way i s) Q old between new c.in_ok-note_nobody.ensures
+    (adds_both (IsKill way i before s) (IsOtherwiseOnOtp way i before s) between killed new c.in_ok-note_killed.ensures last))
+    c.note_otherwise.ensures

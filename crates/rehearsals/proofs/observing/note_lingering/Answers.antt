@@ -1,4 +1,4 @@
--- Each has its turn.
+-- Each one in turn.
 use Rattle.std.proofs.Common.{◌≡◌, ℕ, List, Contains, subst}
 use Rattle.upgrade_review.proofs.Adding.{adds_alike, ends, goes_on}
 use Rattle.upgrade_review.specs.Gathering.{Adds}

@@ -1,4 +1,4 @@
--- Each module has its turn.
+-- Each module in turn.
 use Rattle.std.proofs.Common.{◌≡◌, ℕ, List, Contains, subst}
 use Rattle.upgrade_review.proofs.Adding.{ends, goes_on}
 use Rattle.upgrade_review.specs.Gathering.{Adds}

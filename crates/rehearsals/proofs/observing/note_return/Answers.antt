@@ -1,4 +1,4 @@
--- It is noted as what was seen.
+-- What was seen is noted.
 use Rattle.rehearsals.proofs.Pids.{on_return}
 use Rattle.rehearsals.specs.declared.way.Returned.TheVariants.{Failed, Behind}
 use Rattle.rehearsals.proofs.observing.note_return.Goals as goal

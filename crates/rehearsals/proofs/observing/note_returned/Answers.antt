@@ -1,4 +1,4 @@
--- First those that have another state, and then those that live no more.
+-- First those that have another state, and then those that no longer live.
 use Rattle.upgrade_review.proofs.Adding.{adds_both}
 use Rattle.upgrade_review.proofs.Noting.{on_ok}
 use Rattle.upgrade_review.specs.Gathering.{Adds}

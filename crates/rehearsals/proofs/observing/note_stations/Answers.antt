@@ -1,4 +1,4 @@
--- Each station has its turn.
+-- Each station in turn.
 use Rattle.std.proofs.Common.{◌≡◌, ◌∙◌, ◌<◌, ◌≤◌, List, length, get_or, ap, arith}
 use Rattle.upgrade_review.proofs.Adding.{ends, goes_on}
 use Rattle.rehearsals.specs.Observing.{IsAtStation}

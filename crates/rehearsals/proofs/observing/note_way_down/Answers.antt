@@ -1,4 +1,4 @@
--- It is looked at where it was gone.
+-- It is observed if there was one.
 use Rattle.low_instructions.specs.declared.modules.Direction.TheVariants.{Down}
 use Rattle.rehearsals.proofs.Pids.{on_some}
 use Rattle.rehearsals.specs.Observing.{IsOnWay}

@@ -1,4 +1,4 @@
--- Each event has its turn.
+-- Each event in turn.
 use Rattle.std.proofs.Common.{ℕ}
 use Rattle.upgrade_review.proofs.Adding.{ends, goes_on}
 use Rattle.rehearsals.proofs.Pids.{members_noted}

@@ -1,4 +1,4 @@
--- Nobody had it first, or nobody has it now.
+-- No process had it first, or none has it now.
 use Rattle.std.proofs.Common.{◌∙◌, sym}
 use Rattle.std.proofs.lemmas.Bool.{false≢true}
 use Rattle.upgrade_review.proofs.Adding.{adds_nothing}

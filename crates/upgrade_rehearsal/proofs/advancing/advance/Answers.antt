@@ -1,4 +1,4 @@
--- What is performed is told.
+-- The result of the event is returned.
 use Rattle.upgrade_rehearsal.proofs.Performing.{performed_comes}
 use Rattle.upgrade_rehearsal.proofs.advancing.advance.Goals as goal
 

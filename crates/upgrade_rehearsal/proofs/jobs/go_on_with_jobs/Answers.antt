@@ -1,4 +1,4 @@
--- The script waits for a process that runs, and goes on once more.
+-- The script waits for a process that runs, and is advanced once more.
 use Rattle.std.proofs.Common.{◌∙◌, sym}
 use Rattle.upgrade_rehearsal.proofs.Waiting.{goes_waiting}
 use Rattle.upgrade_rehearsal.proofs.jobs.go_on_with_jobs.Goals as goal

@@ -1,4 +1,4 @@
--- It goes back to where it stood.
+-- It goes back to where it was.
 use Rattle.upgrade_rehearsal.proofs.Leading.{back_at}
 use Rattle.upgrade_rehearsal.proofs.jobs.try_with_jobs.Goals as goal
 

@@ -1,4 +1,4 @@
--- The player stands where the node has booted.
+-- The player is at the stage where the node has booted.
 use Rattle.std.proofs.Common.{sym, subst}
 use Rattle.node_core.specs.Node.{NodeState}
 use Rattle.node_types.specs.Note.{Note}

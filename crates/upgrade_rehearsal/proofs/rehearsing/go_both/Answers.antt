@@ -1,4 +1,4 @@
--- Both ways were gone.
+-- Both ways were run.
 use Rattle.upgrade_rehearsal.proofs.Going.{goes_both}
 use Rattle.upgrade_rehearsal.proofs.Whole.{both_ways}
 use Rattle.upgrade_rehearsal.proofs.rehearsing.go_both.Goals as goal

@@ -1,4 +1,4 @@
--- The way down is gone where the way up was finished.
+-- The way down is run if the way up was finished.
 use Rattle.upgrade_rehearsal.proofs.Going.{stays}
 use Rattle.upgrade_rehearsal.proofs.Whole.{goes_down, stays_up}
 use Rattle.upgrade_rehearsal.proofs.rehearsing.go_down.Goals as goal

@@ -1,4 +1,4 @@
--- What was done says how it was played.
+-- What was done shows how it was played.
 use Rattle.upgrade_rehearsal.proofs.Whole.{played_by}
 use Rattle.upgrade_rehearsal.proofs.rehearsing.play_before.Goals as goal
 

@@ -1,4 +1,4 @@
--- What was shown is the rehearsal; or the release has booted, and it was halted then.
+-- The record is the rehearsal; or the release has booted, and the rehearsal was halted then.
 use Rattle.upgrade_rehearsal.proofs.Whole.{halts_on, rehearsed_by}
 use Rattle.upgrade_rehearsal.proofs.rehearsing.rehearse.Goals as goal
 

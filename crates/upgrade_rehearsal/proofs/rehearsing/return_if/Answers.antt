@@ -1,4 +1,4 @@
--- The return is tried where the way down was finished.
+-- The return is tried if the way down was finished.
 use Rattle.upgrade_rehearsal.proofs.Whole.{is_tried, is_untried}
 use Rattle.upgrade_rehearsal.proofs.rehearsing.return_if.Goals as goal
 

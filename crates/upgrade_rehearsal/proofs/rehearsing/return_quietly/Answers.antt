@@ -1,4 +1,4 @@
--- Both ways were gone, and the node is seen if the way down was finished.
+-- Both ways were run, and the view is returned if the way down was finished.
 use Rattle.upgrade_rehearsal.proofs.Whole.{returns_failed, returns_seen}
 use Rattle.upgrade_rehearsal.proofs.rehearsing.return_quietly.Goals as goal
 

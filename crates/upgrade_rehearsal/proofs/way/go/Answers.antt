@@ -1,4 +1,4 @@
--- The install was refused, or the script was gone through.
+-- The install was refused, or the script was run to its end.
 use Rattle.upgrade_rehearsal.proofs.Going.{goes_both}
 use Rattle.upgrade_rehearsal.proofs.Leading.{on_ok, whatever}
 use Rattle.upgrade_rehearsal.proofs.Ways.{goes_nowhere, goes_to_end}

@@ -1,4 +1,4 @@
--- Nothing is seen but the node.
+-- Only the node is seen.
 use Rattle.std.proofs.Common.{refl, rules}
 use Rattle.upgrade_rehearsal.proofs.way.go_nowhere.Goals as goal
 

@@ -1,4 +1,4 @@
--- One instruction more is gone through in each turn.
+-- One instruction more is run.
 use Rattle.std.proofs.Common.{◌∙◌, ◌-◌, List, ap, length, rules, slice_get}
 use Rattle.rehearsals.specs.Observing.{view_of}
 use Rattle.rehearsals.specs.declared.station.Station.{Station}

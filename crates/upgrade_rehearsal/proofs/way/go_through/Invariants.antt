@@ -1,4 +1,4 @@
--- What was seen so far.
+-- The records so far.
 use Rattle.std.proofs.Common.{◌≡◌, ◌-◌, true, All, length, slice_get}
 use Rattle.rehearsals.specs.Observing.{view_of}
 use Rattle.rehearsals.specs.Ways.{is_carried_out}

@@ -1,4 +1,4 @@
--- It was gone through, and it is asked of the node where the player stands then.
+-- The script was run to its end, and the node in the player's present state is asked.
 use Rattle.std.proofs.Common.{◌∙◌, ap, refl}
 use Rattle.code_server.specs.Modules.{Table as Loaded}
 use Rattle.erl_ir.specs.Module.{Forms}

@@ -1,4 +1,4 @@
--- What was performed begins the install, or is why it is refused.
+-- The result of the event begins the install, or is why it is refused.
 use Rattle.upgrade_rehearsal.proofs.Ways.{begins_by, refused_by}
 use Rattle.upgrade_rehearsal.proofs.way.install.Goals as goal
 

@@ -1,4 +1,4 @@
--- It goes back to where it stood, and the node is as it was seen.
+-- It goes back to where it was, and the node is as it was seen.
 use Rattle.std.proofs.Common.{◌∙◌, ap, sym}
 use Rattle.upgrade_rehearsal.proofs.Leading.{back_at, stage_again}
 use Rattle.upgrade_rehearsal.specs.Seen.{node_view}

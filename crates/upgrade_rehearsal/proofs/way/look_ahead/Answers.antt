@@ -7,7 +7,7 @@ try_out-requires c = c.requires
 pub returns-clause-ahead : goal.returns-clause-ahead
 returns-clause-ahead c = record {
   next = c.in_ok-instruction.ensures.instruction;
-  unsuspended = c.in_ok-instruction.ensures.nobody;
+  known = c.in_ok-instruction.ensures.outlook;
   tried = c.in_ok-jobs.ensures.tried;
   undone = c.in_ok-jobs.ensures.undone;
 }

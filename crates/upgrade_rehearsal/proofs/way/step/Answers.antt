@@ -1,4 +1,4 @@
--- It is seen where the player stands then.
+-- The view is of the player's present state.
 use Rattle.upgrade_rehearsal.proofs.way.step.Goals as goal
 
 pub returns-clause-led : goal.returns-clause-led

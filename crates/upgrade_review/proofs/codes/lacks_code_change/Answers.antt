@@ -1,4 +1,4 @@
--- The code is there, and lacks what it doesn't export.
+-- The code is there, and it lacks what it doesn't export.
 use Rattle.std.proofs.Common.{ap}
 use Rattle.std.specs.Option.{option_copied}
 use Rattle.upgrade_review.proofs.Noting.{lacks_is}

@@ -1,4 +1,4 @@
--- It is there already, or it is put behind.
+-- It is there already, or it is appended.
 use Rattle.std.proofs.Common.{◌≡◌, ◌∙◌, Contains, sym, subst}
 use Rattle.std.proofs.lemmas.Bool.{false≢true}
 use Rattle.upgrade_review.proofs.Adding.{adds_new}

@@ -1,4 +1,4 @@
--- What has come of the modules, and then of the instructions.
+-- The findings about the modules, and then those about the instructions.
 use Rattle.upgrade_review.proofs.Whole.{found_of_parts, once_of_parts}
 use Rattle.upgrade_review.specs.Gathering.{IsFoundIn, IsNotLoadedIn}
 use Rattle.upgrade_review.proofs.looking.look_through.Goals as goal

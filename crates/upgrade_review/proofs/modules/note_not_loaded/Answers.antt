@@ -1,4 +1,4 @@
--- The next one has its turn, and then none is left.
+-- The next item, and then none is left.
 use Rattle.std.proofs.Common.{ℕ, List, subst}
 use Rattle.release_table.specs.declared.table.AppFiles.{AppFiles}
 use Rattle.upgrade_review.proofs.Adding.{ends, goes_on}

@@ -1,4 +1,4 @@
--- The next one has its turn, and then none is left.
+-- The next item, and then none is left.
 use Rattle.upgrade_review.proofs.Adding.{ends, goes_on}
 use Rattle.upgrade_review.specs.Gathering.{IsFoundAt}
 use Rattle.upgrade_review.proofs.script_findings.note_instructions.Goals as goal

@@ -1,4 +1,4 @@
--- One message more in each turn.
+-- One message more.
 use Rattle.upgrade_rehearsal.proofs.Leading.{leads_all, leads_next, leads_nowhere}
 use Rattle.upgrade_rehearsal.specs.Stages.{Comes}
 use Rattle.upgrade_rehearsal.proofs.player.Player.arrive_all.Goals as goal

@@ -1,4 +1,4 @@
--- So much of the traffic has come.
+-- So much of the traffic has been sent.
 use Rattle.std.proofs.Common.{take}
 use Rattle.upgrade_rehearsal.specs.Players.{Leads}
 use Rattle.upgrade_rehearsal.specs.Stages.{AllCome}

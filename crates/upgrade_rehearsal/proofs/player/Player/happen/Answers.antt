@@ -1,4 +1,4 @@
--- What is performed leads on.
+-- What is performed continues it.
 use Rattle.upgrade_rehearsal.proofs.Performing.{performed_on}
 use Rattle.upgrade_rehearsal.proofs.player.Player.happen.Goals as goal
 

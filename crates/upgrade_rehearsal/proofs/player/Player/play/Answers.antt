@@ -1,4 +1,4 @@
--- What waits is served, and then the traffic comes.
+-- What waits is served, and then the traffic is sent.
 use Rattle.upgrade_rehearsal.proofs.Leading.{leads_then, on_ok}
 use Rattle.upgrade_rehearsal.specs.Players.{Leads}
 use Rattle.upgrade_rehearsal.specs.Stages.{Plays, PlaysEach, ServesAll}

@@ -1,4 +1,4 @@
--- The message is taken, and what it has run is committed.
+-- The message is taken, and the result of running it is committed.
 use Rattle.std.proofs.Common.{◌∙◌, sym}
 use Rattle.upgrade_rehearsal.proofs.Performing.{served_by}
 use Rattle.upgrade_rehearsal.proofs.player.Player.serve_one.Goals as goal

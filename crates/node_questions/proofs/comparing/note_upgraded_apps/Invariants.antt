@@ -1,0 +1,12 @@
+-- What is noted so far.
+use Rattle.std.proofs.Common.{ℕ}
+use Rattle.app_table.specs.Applications.{Application}
+use Rattle.upgrade_review.proofs.Adding.{UpTo}
+use Rattle.upgrade_review.specs.Gathering.{Adds}
+use Rattle.node_questions.specs.Parts.{StaysAfterUpgrade}
+use Rattle.node_questions.proofs.comparing.note_upgraded_apps.Given as goal
+
+abbrev pub invariant-loop-index : goal.invariant-loop-index
+invariant-loop-index l =
+    let R = λ (i : ℕ) (a : Application). StaysAfterUpgrade l.booted a in
+    Adds (UpTo R l.upgraded l.index) l.fn.found.items l.found.items

@@ -1,0 +1,13 @@
+-- The next one, and then none is left.
+use Rattle.otp_review.specs.OnOtp.{IsMisplaced}
+use Rattle.upgrade_review.proofs.Adding.{ends, goes_on}
+use Rattle.otp_review.proofs.points.note_misplaced.Goals as goal
+
+pub loop-index-preserved : goal.loop-index-preserved
+loop-index-preserved c =
+    let script = c.args.script.now in
+    goes_on (IsMisplaced c.args.way script) script _ _ _ _ _ c.loop-index-test.true c.index-script-index.is c.loop-index.invariant
+    c.in_ok-note_place.ensures
+
+pub returns : goal.returns
+returns c = ends (IsMisplaced c.args.way c.args.script.now) c.args.script.now _ _ _ c.loop-index-test.false c.loop-index.invariant

@@ -1,0 +1,19 @@
+-- The next item, and then none is left.
+use Rattle.std.proofs.Common.{ℕ, List, subst}
+use Rattle.upgrade_review.proofs.Adding.{ends, goes_on}
+use Rattle.upgrade_review.specs.Calls.{IsOutsideCall}
+use Rattle.upgrade_review.specs.Gathering.{Adds, FromEach}
+use Rattle.upgrade_review.specs.declared.finding.Finding.{Finding}
+use Rattle.upgrade_review.specs.declared.interface.Call.{Call}
+use Rattle.upgrade_review.proofs.calls.note_outside_of.Goals as goal
+
+pub loop-call-preserved : goal.loop-call-preserved
+loop-call-preserved c =
+    let R : ℕ → Call → Finding → Type 0 = λ i call. IsOutsideCall c.args.left.now c.args.installed.now c.args.caller.now.name call in
+    goes_on R c.as_slice-calls.result.now _ _ _ _ _ c.loop-call-test.true c.call-item.is c.loop-call.invariant c.in_ok-note_outside.ensures
+
+pub returns : goal.returns
+returns c =
+    let R : ℕ → Call → Finding → Type 0 = λ i call. IsOutsideCall c.args.left.now c.args.installed.now c.args.caller.now.name call in
+    subst (λ (calls : List Call). Adds (FromEach R calls) c.args.found.now.items c.loop-call.found.items) c.as_slice-calls.ensures
+    (ends R c.as_slice-calls.result.now _ _ _ c.loop-call-test.false c.loop-call.invariant)
