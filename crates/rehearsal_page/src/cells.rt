@@ -114,8 +114,7 @@ impl Cell {
     }
 }
 
-/// Returns what a process does, given the process before a step and after it, if it was there, and whether it was there before
-/// or at the step.
+/// Returns what a process does after a step. `was_there` says whether it was there before the step or at it.
 fn kind_of(before: Option<&ProcessView>, was_there: bool, after: Option<&ProcessView>) -> Kind {
     match (before, after) {
         (Some(_), Some(process)) => kind_of_doing(&process.doing),

@@ -102,8 +102,8 @@ fn last_fitting(rows: &[Row<'_>], columns: usize) -> usize {
     last
 }
 
-/// Returns the rows that are shown: those that change before the last fitting column, and of those that change there as many as
-/// there is room for.
+/// Returns the rows that are shown: those that change before the last column that fits. Of the rows that change in that column,
+/// it returns as many as there is room for.
 fn chosen<'a>(alloc: Global, rows: &[Row<'a>], columns: usize) -> Result<Vec<Row<'a>>, AllocError> {
     let last = last_fitting(rows, columns);
     let mut room = MOST_ROWS.saturating_sub(changed_before(rows, last));

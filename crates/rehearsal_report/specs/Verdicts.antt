@@ -72,7 +72,7 @@ kind_of_finding (AppliesNobody way i call) = AppliesNobodyKind
 kind_of_finding (CallsOutside caller call) = CallsOutsideKind
 kind_of_finding (CallsInCallback callback) = CallsInCallbackKind
 
--- The kind of what a message caused: another one before the way up, where the upgrade has no part in it.
+-- The kind of what a message caused. Before the way up it is another kind, for the upgrade has no part in it.
 
 abbrev pub end_kind : Moment → Kind
 end_kind Before = EndsBefore

@@ -9,8 +9,8 @@
 //!
 //! # What is proved
 //!
-//! [`verdict_of`] returns that an upgrade fails exactly if it would not go up and down, with the traffic and without. For one
-//! that would go, it returns that there are findings exactly if something was found of a kind that isn't allowed (`IsVerdict`).
+//! [`verdict_of`] returns `Fails` exactly if an upgrade would not go up and down, with the traffic and without. For one that would
+//! go, it returns `HasFindings` exactly if something was found of a kind that isn't allowed (`IsVerdict`).
 //! [`kind_of_finding`] and [`kind_of_observation`] return the kind of each thing. No contract says which texts are written.
 #![tactic(auto)]
 

@@ -55,8 +55,7 @@ fn start<R: Runtime + RandomSource + AllocGlobal>(rt: &R, has_bar: bool) -> Resu
     }
 }
 
-/// Prints the relup, if only that is asked for, or else rehearses, and writes the report. This is done for each release that
-/// FROM names.
+/// Works on each release that FROM names.
 fn execute<R: Runtime + RandomSource + AllocGlobal>(
     rt: &R,
     has_bar: bool,

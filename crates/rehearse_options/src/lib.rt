@@ -114,7 +114,7 @@ Example: go on if nothing is found but that a new application is started:
 pub struct Options {
     /// The folder of the files, as the word stands.
     pub root: String,
-    /// The version of the release that is left, or several with commas between them, as the word stands.
+    /// The version of the release that is left, or several with commas between them, as they were given.
     pub from: String,
     /// The version of the release that is installed, as the word stands.
     pub to: String,

@@ -98,7 +98,7 @@ abbrev pub EndsAs : Event → Outcome → Stage → Type 0
 EndsAs e told s = (sent : List Happening) × (new : Stage) × ComesTo e told s sent new
 
 -- An instruction while jobs run: it waits for no process, and has this outcome; or it waits for a process that runs, and has
--- this outcome if it is told not to wait.
+-- this outcome if it doesn't wait.
 abbrev pub GoesWithJobs : Option ℕ → Outcome → Stage → Type 0
 GoesWithJobs None told s = (waiting_for told ≡ None) × EndsAs (Advance false) told s
 GoesWithJobs (Some pid) told s = EndsAs (Advance false) (outcome.Refused (refusal.Busy pid)) s × EndsAs (Advance true) told s
@@ -212,7 +212,8 @@ IsBoot to is_up top boot.Boots = (is_up ≡ false) × (n : NodeState) × HasBoot
 IsBoot to is_up top (boot.Compared found) = (is_up ≡ true) × (n : NodeState) × HasBooted to n × AreDifferences top n found.items
 
 -- The record of an upgrade, from where the release that is left has booted, which has the version `down_to`. The node gets the
--- other release, and the traffic is played. Then come both ways, and after they are undone the node is as it was seen before.
+-- other release, and the traffic is played. Then come both ways, and after they are undone the view of the node is the same as
+-- before.
 -- The node after the way up is compared with one on which the other release has booted.
 pub record IsShown (start : Stage) (down_to : List ℕ) (to : Release) (traffic : List Arrival) (r : Rehearsal) : Type 0 where
   pub known : Stage

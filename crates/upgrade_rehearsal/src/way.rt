@@ -174,7 +174,7 @@ fn settle(player: &mut Player, traffic: &[Arrival]) -> Result<(NodeView, Option<
     Ok((view, player.restless()))
 }
 
-/// Executes an instruction and goes back to the bookmark, and returns whether the node is as it was seen before.
+/// Executes an instruction and takes it back. Returns whether the view of the node is then the same as before.
 fn is_undone(player: &mut Player, bookmark: Bookmark, before: &NodeView) -> Result<bool, Halt>
     requires bookmark { IsBookmark bookmark player.old }
     requires before { before.now ≡ node_view (here player.old.journal).node }
